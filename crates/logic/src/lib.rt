@@ -1,0 +1,2 @@
+pub mod concept;
+pub mod role;

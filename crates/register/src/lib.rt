@@ -1,0 +1,3 @@
+pub mod bounded;
+pub mod entry;
+pub mod store;
