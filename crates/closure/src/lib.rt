@@ -3,8 +3,8 @@ ghost use mathlib.Core.Path.{_≡_};
 ghost use Prim.Native.Nat.{ℕ, _%_, _^_, _<_};
 ghost use Rattle.logic.specs.declared.role.RoleAxiom.{RoleAxiom};
 ghost use Rattle.logic.specs.declared.role.RoleAxiom.the-variants.{Inclusion};
-ghost use Rattle.logic.specs.Roles.{inverse};
 ghost use Rattle.closure.specs.Closure.{words, Square, cell, Exact, own-word, RowJoined, PairAdded};
+use logic::role::inverse;
 
 // The closure of the inclusions among any number of roles, in a table that the caller owns: row r has a bit for each
 // role that r is below. The table is closed at all times, so that one inclusion more takes one pass over the rows.
@@ -15,13 +15,6 @@ fn row_words(roles: usize) -> usize
     ensures { λ r. ⌜ r ≡ words roles ⌝ }
 {
     (roles + 63) / 64
-}
-
-// The role with the pairs turned round.
-fn inverse(role: usize) -> usize
-    ensures { λ r. ⌜ r ≡ inverse role ⌝ }
-{
-    if role % 2 == 0 { role + 1 } else { role - 1 }
 }
 
 // Word `k` of the row of a role that is below itself alone.

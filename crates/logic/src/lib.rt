@@ -1,2 +1,3 @@
 pub mod concept;
+pub mod laws;
 pub mod role;

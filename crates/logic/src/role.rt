@@ -14,7 +14,7 @@ pub enum RoleAxiom {
 }
 
 // The role with the pairs turned round.
-pub fn inverse(role: u16) -> u16
+pub fn inverse(role: usize) -> usize
     ensures { λ r. ⌜ r ≡ inverse role ⌝ }
 {
     if role % 2 == 0 { role + 1 } else { role - 1 }

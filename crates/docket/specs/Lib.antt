@@ -1,0 +1,6 @@
+pub mod Phases
+pub mod Fields
+pub mod Dockets
+pub mod Calls
+pub mod Runs
+pub mod Questions

@@ -1,0 +1,3 @@
+pub mod RoleTables
+pub mod Pairings
+pub mod Keeping

@@ -1,0 +1,5 @@
+pub mod Roles
+pub mod Mates
+pub mod Vocabularies
+pub mod Pairing
+pub mod Keeping
