@@ -1,0 +1,2 @@
+pub mod Closure
+pub mod Decide
