@@ -1,8 +1,7 @@
 -- The test `below?` decides what is below what.
-use mathlib.Core.Path.{_≡_, refl}
 use mathlib.Core.Bool.{Bool, true, false, _||_, _&&_}
-use mathlib.Core.List.{List, [], _∷_, List·Memᴰ, List·Memᴰ·head, List·Memᴰ·tail, List·Memᴰ·cases-cons}
-use mathlib.Core.Logic.{_⊎_, inl, inr, ⊎-elim, _↔_}
+use mathlib.Core.List.{List, [], _∷_}
+use mathlib.Core.Logic.{_⊎_, inl, inr, ⊎-elim, _↔_, Iff·trans}
 use Prim.Native.Nat.{ℕ}
 use lib.Dec.{T, eqb, eqb→eq, eqb-refl}
 use Rattle.logic.specs.declared.role.RoleAxiom.{RoleAxiom}
@@ -11,7 +10,7 @@ use Rattle.logic.specs.Roles.{inverse, Below, itself}
 use Rattle.closure.specs.Closure.{through?}
 use Rattle.closure.specs.Decide.{below?}
 use Rattle.closure.proofs.Chains.{Through, Twice}
-use Rattle.closure.proofs.BelowFacts.{below-mono, below-none, inclusion≢transitivity, below-more-in, below-more-out}
+use Rattle.closure.proofs.BelowFacts.{below-none, below-transitivity-first, below-inclusion-first}
 
 or-and-out : (x y z : Bool) → T (x || (y && z)) → T x ⊎ (T y × T z)
 or-and-out true y z h = inl tt
@@ -44,19 +43,12 @@ twice-decided f R all r s i j =
     once : (a b : ℕ) → T (through? f r s a b) ↔ Through R r s a b
     once a b = through-decided f R r s a b (all a b) (all a r) (all s b)
 
+-- with no axioms, below is equal
 pub eqb-decided : (i j : ℕ) → T (eqb i j) ↔ Below [] i j
 eqb-decided i j = (λ h. rw (eqb→eq i j h) itself, λ p. rw (below-none i j p) (eqb-refl j))
 
 pub below-decided : (axioms : List RoleAxiom) (r s : ℕ) → T (below? axioms r s) ↔ Below axioms r s
 below-decided [] r s = eqb-decided r s
 below-decided (Inclusion a b ∷ axioms) r s =
-    let twice = twice-decided (below? axioms) (Below axioms) (below-decided axioms) a b r s in
-    let keep : (i j : ℕ) → List·Memᴰ (Inclusion i j) axioms → List·Memᴰ (Inclusion i j) (Inclusion a b ∷ axioms) = λ i j m. List·Memᴰ·tail m in
-    let here : List·Memᴰ (Inclusion a b) (Inclusion a b ∷ axioms) = List·Memᴰ·head refl in
-    let either : (i j : ℕ) → List·Memᴰ (Inclusion i j) (Inclusion a b ∷ axioms) → List·Memᴰ (Inclusion i j) axioms ⊎ (Inclusion i j ≡ Inclusion a b) =
-    λ i j m. ⊎-elim (λ e. inr e) (λ h. inl h) (List·Memᴰ·cases-cons m) in
-    (λ h. below-more-in axioms _ a b keep here either r s (twice .0 h), λ p. twice .1 (below-more-out axioms _ a b keep here either r s p))
-below-decided (Transitivity a ∷ axioms) r s = (
-  λ h. below-mono axioms _ (λ i j m. List·Memᴰ·tail m) r s (below-decided axioms r s .0 h),
-  λ p. below-decided axioms r s .1 (below-mono _ axioms (λ i j m. ⊎-elim (λ e. absurd (inclusion≢transitivity e)) (λ h. h) (List·Memᴰ·cases-cons m)) r s p),
-)
+    Iff·trans (twice-decided (below? axioms) (Below axioms) (below-decided axioms) a b r s) (below-inclusion-first axioms a b r s)
+below-decided (Transitivity a ∷ axioms) r s = Iff·trans (below-decided axioms r s) (below-transitivity-first axioms a r s)

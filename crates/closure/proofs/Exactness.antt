@@ -1,7 +1,7 @@
 -- The table is exact at the start, and stays exact with each axiom more.
-use mathlib.Core.Path.{_≡_, refl, sym, subst, ap, ap₂, _∙_}
-use mathlib.Core.List.{List, [], _∷_, _++_, List·Memᴰ, List·Memᴰ·head, Memᴰ·append-left, Memᴰ·append-right, List·Memᴰ·append-cases, List·Memᴰ·eq-of-singleton}
-use mathlib.Core.Logic.{_⊎_, inl, inr, ⊎-elim, _↔_, _≢_}
+use mathlib.Core.Path.{_≡_, sym, ap, ap₂, _∙_}
+use mathlib.Core.List.{List, [], _∷_, _++_}
+use mathlib.Core.Logic.{⊎-elim, _↔_, Iff·trans, _≢_}
 use Prim.Native.Nat.{ℕ, _+_, _*_, _/_, _%_, _^_, _<_}
 use native.Mathlib.Omega.{arith}
 use lib.Dec.{T, eqb}
@@ -13,9 +13,9 @@ use Rattle.bits.proofs.BitFacts.{bit-zero, pow-same, bit-pow-other}
 use Rattle.logic.specs.declared.role.RoleAxiom.{RoleAxiom}
 use Rattle.logic.specs.declared.role.RoleAxiom.the-variants.{Inclusion, Transitivity}
 use Rattle.logic.specs.Roles.{inverse, Below}
-use Rattle.closure.specs.Closure.{words, cell, own-word, through?, PairAdded, Exact}
+use Rattle.closure.specs.Closure.{words, cell, own-word, PairAdded, Exact}
 use Rattle.closure.proofs.Chains.{Through, Twice}
-use Rattle.closure.proofs.BelowFacts.{below-mono, inclusion≢transitivity, below-more-in, below-more-out}
+use Rattle.closure.proofs.BelowFacts.{below-transitivity, below-inclusion}
 use Rattle.closure.proofs.Decided.{through-decided, eqb-decided}
 use Rattle.closure.proofs.Places.{place}
 
@@ -36,7 +36,7 @@ own-cell i j = ⊎-elim same-word other-word (cases-eq (j / 64) (i / 64))
 
 pub exact-start : (table : List ℕ) (roles : ℕ)
     → ((at : ℕ) → at < roles * words roles → getD table at 0 ≡ own-word (at / words roles) (at % words roles)) → Exact table roles []
-exact-start table roles all i j hi hj = (λ h. eqb-decided i j .0 (subst T own h), λ p. subst T (sym own) (eqb-decided i j .1 p))
+exact-start table roles all i j hi hj = rw own (eqb-decided i j)
   where
     column : j / 64 < words roles
     column = omega arith
@@ -50,18 +50,8 @@ exact-start table roles all i j hi hj = (λ h. eqb-decided i j .0 (subst T own h
 -- a pair and its inverse put in are one inclusion more
 pub exact-inclusion : (old mid new : List ℕ) (roles r s : ℕ) (axioms : List RoleAxiom) → r < roles → s < roles → inverse r < roles → inverse s < roles
     → PairAdded old mid roles r s → PairAdded mid new roles (inverse r) (inverse s) → Exact old roles axioms → Exact new roles (axioms ++ (Inclusion r s ∷ []))
-exact-inclusion old mid new roles r s axioms hr hs hr′ hs′ first second exact i j hi hj =
-    (λ h. below-more-in axioms _ r s keep here either i j (twice .0 h), λ p. twice .1 (below-more-out axioms _ r s keep here either i j p))
+exact-inclusion old mid new roles r s axioms hr hs hr′ hs′ first second exact i j hi hj = Iff·trans twice (below-inclusion axioms r s i j)
   where
-    keep : (a b : ℕ) → List·Memᴰ (Inclusion a b) axioms → List·Memᴰ (Inclusion a b) (axioms ++ (Inclusion r s ∷ []))
-    keep a b m = Memᴰ·append-left _ m
-
-    here : List·Memᴰ (Inclusion r s) (axioms ++ (Inclusion r s ∷ []))
-    here = Memᴰ·append-right axioms (List·Memᴰ·head refl)
-
-    either : (a b : ℕ) → List·Memᴰ (Inclusion a b) (axioms ++ (Inclusion r s ∷ [])) → List·Memᴰ (Inclusion a b) axioms ⊎ (Inclusion a b ≡ Inclusion r s)
-    either a b m = ⊎-elim (λ h. inl h) (λ h. inr (List·Memᴰ·eq-of-singleton h)) (List·Memᴰ·append-cases axioms m)
-
     once : (a b : ℕ) → a < roles → b < roles → T (cell mid roles a b) ↔ Through (Below axioms) r s a b
     once a b ha hb =
         rw (first a b ha hb) (through-decided (cell old roles) (Below axioms) r s a b (exact a b ha hb) (exact a r ha hr) (exact s b hs hb))
@@ -72,11 +62,6 @@ exact-inclusion old mid new roles r s axioms hr hs hr′ hs′ first second exac
         (once i j hi hj) (once i (inverse r) hi hr′) (once (inverse s) j hs′ hj))
 
 -- a transitivity changes nothing
-pub exact-transitivity : (table : List ℕ) (roles r : ℕ) (axioms : List RoleAxiom) → Exact table roles axioms → Exact table roles (axioms ++ (Transitivity r ∷ []))
-exact-transitivity table roles r axioms exact i j hi hj = (
-  λ h. below-mono axioms _ (λ a b m. Memᴰ·append-left (Transitivity r ∷ []) m) i j (exact i j hi hj .0 h),
-  λ p. exact i j hi hj .1 (below-mono _ axioms less i j p),
-)
-  where
-    less : (a b : ℕ) → List·Memᴰ (Inclusion a b) (axioms ++ (Transitivity r ∷ [])) → List·Memᴰ (Inclusion a b) axioms
-    less a b m = ⊎-elim (λ h. h) (λ h. absurd (inclusion≢transitivity (List·Memᴰ·eq-of-singleton h))) (List·Memᴰ·append-cases axioms m)
+pub exact-transitivity : (table : List ℕ) (roles r : ℕ) (axioms : List RoleAxiom)
+    → Exact table roles axioms → Exact table roles (axioms ++ (Transitivity r ∷ []))
+exact-transitivity table roles r axioms exact i j hi hj = Iff·trans (exact i j hi hj) (below-transitivity axioms r i j)

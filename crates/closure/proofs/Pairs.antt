@@ -20,7 +20,8 @@ pub record PairPart (old new : List ℕ) (roles r s i : ℕ) : Type 0 where
   pub todo : (a b : ℕ) → i ≤ a → a < roles → b < roles → cell new roles a b ≡ cell old roles a b
 
 -- row s stays as it was: if it is joined at all, then with itself
-row-stays : (old new : List ℕ) (roles r s i : ℕ) → s < roles → PairPart old new roles r s i → (b : ℕ) → b < roles → cell new roles s b ≡ cell old roles s b
+row-stays : (old new : List ℕ) (roles r s i : ℕ) → s < roles → PairPart old new roles r s i
+    → (b : ℕ) → b < roles → cell new roles s b ≡ cell old roles s b
 row-stays old new roles r s i hs p b hb = ⊎-elim
     (λ h. p .done s b h hs hb ∙ absorb (cell old roles s b) (cell old roles s r)) (λ h. p .todo s b h hs hb) (cases-lt s i)
 

@@ -18,5 +18,6 @@ pub place-column : (w a b i j : ℕ) → b < w → j < w → a * w + b ≡ i * w
 place-column w a b i j p q e = sym (mod-mul-add a w b p) ∙ ap (λ x. x % w) e ∙ mod-mul-add i w j q
 
 -- word k of row i stands in the table
-pub in-table : (table : List ℕ) (roles width i k : ℕ) → Square table roles → width ≡ words roles → i < roles → k < words roles → i * width + k < length table
+pub in-table : (table : List ℕ) (roles width i k : ℕ)
+    → Square table roles → width ≡ words roles → i < roles → k < words roles → i * width + k < length table
 in-table table roles width i k square e hi hk = rw (square, e) (place roles (words roles) i k hi hk)

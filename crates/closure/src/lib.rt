@@ -1,13 +1,14 @@
 ghost use mathlib.Core.List.{List, [], _∷_, _++_};
 ghost use mathlib.Core.Path.{_≡_};
-ghost use Prim.Native.Nat.{ℕ, _%_, _^_, _<_};
+ghost use Prim.Native.Nat.{_%_, _^_, _<_};
 ghost use Rattle.logic.specs.declared.role.RoleAxiom.{RoleAxiom};
 ghost use Rattle.logic.specs.declared.role.RoleAxiom.the-variants.{Inclusion};
 ghost use Rattle.closure.specs.Closure.{words, Square, cell, Exact, own-word, RowJoined, PairAdded};
+
 use logic::role::inverse;
 
 // The closure of the inclusions among any number of roles, in a table that the caller owns: row r has a bit for each
-// role that r is below. The table is closed at all times, so that one inclusion more takes one pass over the rows.
+// role that r is below. The table is closed at all times, so that one pass over the rows puts in one pair more.
 
 // How many words a row has.
 fn row_words(roles: usize) -> usize
@@ -55,8 +56,8 @@ fn join_row(table: &mut [u64], roles: usize, i: usize, s: usize)
     }
 }
 
-// Puts the pair (r, s) into a closed table: what is below `r` gets below all that `s` is below. Row `s` needs no copy,
-// since the only row that could change it while it is read is its own.
+// Puts the pair (r, s) into a closed table: what is below `r` gets below all that `s` is below. Row `s` needs no copy:
+// if it is written at all, it takes over itself and stays as it was.
 fn add_pair(table: &mut [u64], roles: usize, r: usize, s: usize)
     requires { ⌜ Square (now table) roles ⌝ ∗ ⌜ r < roles ⌝ ∗ ⌜ s < roles ⌝ ∗ ⌜ roles < 2 ^ 32 ⌝ }
     ensures { λ _. ⌜ PairAdded (now (table .entry)) (now (table .exit)) roles r s ⌝ }
