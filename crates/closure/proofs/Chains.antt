@@ -2,7 +2,7 @@
 use mathlib.Core.Logic.{_⊎_, inl, inr}
 use Prim.Native.Nat.{ℕ}
 use Rattle.logic.specs.Roles.{inverse}
-use Rattle.closure.proofs.Inverses.{inverse-inverse}
+use Rattle.logic.proofs.RoleFacts.{inverse-inverse}
 
 -- R with the pair (r, s) put in: it leads from i to j as before, or through the pair
 abbrev pub Through : (ℕ → ℕ → Type 0) → ℕ → ℕ → ℕ → ℕ → Type 0

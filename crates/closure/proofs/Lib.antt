@@ -1,4 +1,3 @@
-pub mod Inverses
 pub mod Chains
 pub mod BelowFacts
 pub mod Decided

@@ -13,6 +13,10 @@ use Rattle.logic.specs.Laws.{BelowIsSound, TransitiveIsSound}
 pub inverse-inverse : (r : ℕ) → inverse (inverse r) ≡ r
 inverse-inverse r = omega arith
 
+-- an even number of roles has the inverse of each
+pub inverse-below : (roles r : ℕ) → roles % 2 ≡ 0 → r < roles → inverse r < roles
+inverse-below roles r even h = omega arith
+
 inverse-name : (r : ℕ) → inverse r / 2 ≡ r / 2
 inverse-name r = omega arith
 

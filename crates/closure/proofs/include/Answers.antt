@@ -1,7 +1,7 @@
 use native.Mathlib.Omega.{arith}
 use Rattle.logic.specs.Roles.{inverse}
 use Rattle.closure.specs.Closure.{PairAdded}
-use Rattle.closure.proofs.Inverses.{inverse-below}
+use Rattle.logic.proofs.RoleFacts.{inverse-below}
 use Rattle.closure.proofs.Exactness.{exact-inclusion}
 use Rattle.closure.proofs.include.Needs as need
 

@@ -1,0 +1,4 @@
+pub mod bytes;
+mod layout;
+pub mod reader;
+pub mod record;
