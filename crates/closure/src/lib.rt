@@ -4,7 +4,6 @@ ghost use Prim.Native.Nat.{_%_, _^_, _<_};
 ghost use Rattle.logic.specs.declared.role.RoleAxiom.{RoleAxiom};
 ghost use Rattle.logic.specs.declared.role.RoleAxiom.the-variants.{Inclusion};
 ghost use Rattle.closure.specs.Closure.{words, Square, cell, Exact, own-word, RowJoined, PairAdded};
-
 use logic::role::inverse;
 
 // The closure of the inclusions among any number of roles, in a table that the caller owns: row r has a bit for each
