@@ -49,7 +49,7 @@ pub taken-more : (f : List ℕ) (i n : ℕ) (d m m′ : Docket) (rs : List Reply
     → TakenTo f (end-of f i) d (take (n + 1) (set rs n r)) m′
 taken-more f i n d m m′ rs r l k takes before ss e rest =
     subst (λ (xs : List Reply). Taken f 0 d xs e) (sym (ap (λ (xs : List Reply). xs ++ ss) (take-more-set rs n r k) ∙ append-assoc (take n rs) (r ∷ []) ss))
-        (before (r ∷ ss) e (next l takes rest))
+    (before (r ∷ ss) e (next l takes rest))
 
 pub taken-all : (f : List ℕ) (i : ℕ) (d m : Docket) (rs : List Reply) → length f ≤ i → TakenTo f i d rs m → Taken f 0 d rs m
 taken-all f i d m rs l before = subst (λ (xs : List Reply). Taken f 0 d xs m) (append-nil rs) (before [] m (ended l))

@@ -1,6 +1,7 @@
+pub mod show;
+
 ghost use Rattle.docket.specs.Runs.{Reached};
 ghost use Rattle.intake.specs.Taking.{Takes, FileTaken};
-
 use docket::Answer;
 use docket::Docket;
 use records::bytes::field;
@@ -25,11 +26,18 @@ pub fn take(docket: &mut Docket, frame: &Frame) -> Answer
     match well_formed {
         Record::Inclusion { body } => docket.file_inclusion(field(body, 0), field(body, 1)),
         Record::Transitivity { body } => docket.file_transitivity(field(body, 0)),
-        Record::Concept { body } => docket.file_concept(field(body, 0), field(body, 1), field(body, 2)),
+        Record::Concept { body } => docket.file_concept(
+            field(body, 0),
+            field(body, 1),
+            field(body, 2),
+        ),
         Record::Pair { body } => docket.pair(field(body, 0), field(body, 1)),
         Record::Axiom { body } => docket.file_axiom(field(body, 0)),
         Record::Seal => docket.seal(),
-        Record::Line { .. } | Record::Claim { .. } | Record::CloseEmpty { .. } | Record::CloseInhabited { .. } => Err(Refusal::Malformed(frame.offset)),
+        Record::Line { .. }
+        | Record::Claim { .. }
+        | Record::CloseEmpty { .. }
+        | Record::CloseInhabited { .. } => Err(Refusal::Malformed(frame.offset)),
     }
 }
 
@@ -45,7 +53,10 @@ pub fn take_file(docket: &mut Docket, file: &[u8], replies: &mut [Reply]) -> Ans
     let mut reader = Reader::new(file);
     let mut n = 0;
     while let Some(frame) = reader.next() {
-        replies[n] = Reply { kind: frame.kind, answer: take(docket, &frame) };
+        replies[n] = Reply {
+            kind: frame.kind,
+            answer: take(docket, &frame),
+        };
         n += 1;
     }
     Ok(n)

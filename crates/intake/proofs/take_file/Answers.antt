@@ -33,13 +33,14 @@ loop-frame-again c =
     let n = c .loop-frame .n in
     let i = c .loop-frame .reader .at in
     let reply : Reply = record { kind = c .in-Some .frame .kind; answer = c .take .result } in
-    let now-at = read c .2 in
-    (read c .1,
-     subst (λ (k : ℕ). Passed f (n + 1) k) (sym now-at) (passed-more f n i (read c .0) (c .loop-frame .inv .1)),
-     subst (λ (k : ℕ). TakenTo f k (c .args .docket .now) (take (n + 1) (set (c .loop-frame .replies) n reply)) (c .take .last .docket)) (sym now-at)
-        (taken-more f i n (c .args .docket .now) (c .loop-frame .docket) (c .take .last .docket) (c .loop-frame .replies) reply (read c .0) (place c)
-            (read c .3 (c .loop-frame .docket) (c .take .last .docket) (c .take .result) (c .take .ensures)) (c .loop-frame .inv .2)),
-     untouched-more (c .loop-frame .replies) (c .args .replies .now) n reply (c .loop-frame .inv .3))
+    let now-at = read c .2 in (
+      read c .1,
+      subst (λ (k : ℕ). Passed f (n + 1) k) (sym now-at) (passed-more f n i (read c .0) (c .loop-frame .inv .1)),
+      subst (λ (k : ℕ). TakenTo f k (c .args .docket .now) (take (n + 1) (set (c .loop-frame .replies) n reply)) (c .take .last .docket)) (sym now-at)
+          (taken-more f i n (c .args .docket .now) (c .loop-frame .docket) (c .take .last .docket) (c .loop-frame .replies) reply (read c .0) (place c)
+          (read c .3 (c .loop-frame .docket) (c .take .last .docket) (c .take .result) (c .take .ensures)) (c .loop-frame .inv .2)),
+      untouched-more (c .loop-frame .replies) (c .args .replies .now) n reply (c .loop-frame .inv .3),
+    )
 
 pub returns : need.returns
 returns c =
@@ -53,4 +54,5 @@ returns c =
     let taken = taken-all f (c .loop-frame .reader .at) (c .args .docket .now) (c .loop-frame .docket) _ end (inv .2) in
     record {
       taken = (all, omega arith, taken, inv .3);
-      reached = taken-reached f 0 (c .args .docket .now) (c .loop-frame .docket) _ taken }
+      reached = taken-reached f 0 (c .args .docket .now) (c .loop-frame .docket) _ taken;
+    }
