@@ -1,18 +1,20 @@
 -- Filing and pairing keep what every vocabulary keeps.
-use mathlib.Core.Bool.{Bool, true, false, cond}
-use mathlib.Core.List.{List, [], _∷_, _++_, List·Memᴰ, List·Memᴰ·append-cases, List·Memᴰ·eq-of-singleton, List·Memᴰ·not-nil}
+use mathlib.Core.Bool.{Bool, true, false, cond, _||_}
+use mathlib.Core.List.{List, [], _∷_, _++_, List·Memᴰ, List·Memᴰ·head, Memᴰ·append-left, Memᴰ·append-right, List·Memᴰ·append-cases, List·Memᴰ·eq-of-singleton, List·Memᴰ·not-nil}
 use mathlib.Core.Logic.{_⊎_, inl, inr, ⊎-elim}
 use mathlib.Core.Path.{_≡_, refl, sym, subst, ap, _∙_}
-use Prim.Native.Nat.{ℕ, zero, suc, _<_, _≤_}
+use Prim.Native.Nat.{ℕ, zero, suc, _*_, _<_, _≤_}
 use native.Mathlib.Omega.{arith}
-use lib.Dec.{ltb}
+use lib.Dec.{ltb, eqb}
 use lib.ListN.{length, getD, set, length-set, replicate}
 use lib.Seq.{getD-set-same, getD-set-other}
 use Rattle.std.specs.declared.option.Option.{Option}
 use Rattle.std.specs.declared.option.Option.the-variants.{Some, None}
 use Rattle.std.specs.declared.result.Result.the-variants.{Ok}
 use Rattle.std.proofs.shelf.Lists.{getD-append-left, getD-push, length-push, length-replicate}
-use Rattle.std.proofs.shelf.Tests.{cases-eq, cases-lt, lt-ltb}
+use Rattle.std.proofs.shelf.Tests.{cases-eq, cases-lt, lt-ltb, eqb-true, eq-eqb}
+use Rattle.bits.specs.Bits.{has, inserted}
+use Rattle.bits.proofs.BitFacts.{has-inserted, length-inserted, has-zeros}
 use Rattle.register.specs.References.{Ordered}
 use Rattle.register.specs.Registers.{entries, room}
 use Rattle.register.proofs.Stores.{ordered-push}
@@ -29,7 +31,7 @@ use Rattle.vocabulary.specs.Roles.{RolesKept}
 use Rattle.vocabulary.specs.Vocabularies.{concepts, axioms, New, ConceptFiled, RolesFiled, AxiomFiled, Paired}
 use Rattle.vocabulary.specs.Pairing.{AreMates, Pairable}
 use Rattle.vocabulary.specs.Keeping.{InRange, MatesKept, AxiomsStand, Kept}
-use Rattle.vocabulary.proofs.Pairings.{pairable-is-decided, negates-opposite}
+use Rattle.vocabulary.proofs.Pairings.{or-cases, or-left, or-right, pairable-is-decided, negates-opposite}
 
 -- a new vocabulary
 none-there : (n c d : ℕ) → getD (replicate n None) c None ≡ Some d → ⊥
@@ -58,6 +60,13 @@ kept-new v n small = record {
     opposite = λ c d h. absurd (no-mates (v .mates) (n .no-mate) c d h);
     each-other = λ c d h. absurd (no-mates (v .mates) (n .no-mate) c d h);
   };
+  axioms-kept = record {
+    sixteen = ap length (n .no-axiom-bit) ∙ length-replicate {A = ℕ} 16 0;
+    exact = λ c l. (
+      λ h. let z : false ≡ true = sym (ap (λ r. has r c) (n .no-axiom-bit) ∙ has-zeros 16 c) ∙ h in let y : _≡_ {A = ℕ} 0 1 = cc in absurd (omega arith),
+      λ m. absurd (List·Memᴰ·not-nil (subst (λ (xs : List ℕ). List·Memᴰ c xs) (n .no-axiom) m)),
+    );
+  };
   axioms-stand = λ c m. absurd (List·Memᴰ·not-nil (subst (λ (xs : List ℕ). List·Memᴰ c xs) (n .no-axiom) m));
 }
 
@@ -67,6 +76,7 @@ kept-role-axiom v w a i h t = record {
   roles-kept = h .0 .1 (t .roles-kept);
   concepts-kept = rw (h .1) (t .concepts-kept);
   mates-kept = rw (h .1, h .2) (t .mates-kept);
+  axioms-kept = rw (h .3) (t .axioms-kept);
   axioms-stand = rw (h .1, h .3) (t .axioms-stand);
 }
 
@@ -76,12 +86,33 @@ kept-axiom v w c i h l t = record {
   roles-kept = rw (h .1) (t .roles-kept);
   concepts-kept = rw (h .2) (t .concepts-kept);
   mates-kept = rw (h .2, h .3) (t .mates-kept);
-  axioms-stand = rw (h .2) more;
+  axioms-kept = record { sixteen = ap length row ∙ length-inserted (v .axioms .row) c ∙ t .axioms-kept .sixteen; exact = λ x lx. (forth x lx, back x lx) };
+  axioms-stand = rw (h .2) (λ x m. ⊎-elim (t .axioms-stand x) (λ e. subst (λ (y : ℕ). y < length (concepts v)) (sym e) l) (among x m));
 }
   where
-    more : AxiomsStand (concepts v) (axioms w)
-    more x m = ⊎-elim (t .axioms-stand x) (λ e. subst (λ (y : ℕ). y < length (concepts v)) (sym (List·Memᴰ·eq-of-singleton e)) l)
-        (List·Memᴰ·append-cases (axioms v) (subst (λ (xs : List ℕ). List·Memᴰ x xs) (h .0 .2) m))
+    row : w .axioms .row ≡ inserted (v .axioms .row) c
+    row = h .0 .1
+
+    among : (x : ℕ) → List·Memᴰ x (axioms w) → List·Memᴰ x (axioms v) ⊎ (x ≡ c)
+    among x m = ⊎-elim inl (λ e. inr (List·Memᴰ·eq-of-singleton e)) (List·Memᴰ·append-cases (axioms v) (subst (λ (xs : List ℕ). List·Memᴰ x xs) (h .0 .0 .2) m))
+
+    within : c < 64 * length (v .axioms .row)
+    within = let s = t .axioms-kept .sixteen in let f = t .concepts-kept .few in omega arith
+
+    bits : (x : ℕ) → has (w .axioms .row) x ≡ (eqb c x || has (v .axioms .row) x)
+    bits x = ap (λ r. has r x) row ∙ has-inserted (v .axioms .row) c x within
+
+    forth : (x : ℕ) → x < 1024 → has (w .axioms .row) x ≡ true → List·Memᴰ x (axioms w)
+    forth x lx k = subst (λ (xs : List ℕ). List·Memᴰ x xs) (sym (h .0 .0 .2)) (⊎-elim
+        (λ e. Memᴰ·append-right (axioms v) (List·Memᴰ·head (sym (eqb-true c x e))))
+        (λ e. Memᴰ·append-left (c ∷ []) (t .axioms-kept .exact x lx .0 e))
+        (or-cases (eqb c x) (has (v .axioms .row) x) (sym (bits x) ∙ k)))
+
+    back : (x : ℕ) → x < 1024 → List·Memᴰ x (axioms w) → has (w .axioms .row) x ≡ true
+    back x lx m = bits x ∙ ⊎-elim
+        (λ k. or-right (eqb c x) (has (v .axioms .row) x) (t .axioms-kept .exact x lx .1 k))
+        (λ e. or-left (eqb c x) (has (v .axioms .row) x) (eq-eqb c x (sym e)))
+        (among x m)
 
 -- a concept more
 at-push : (cs : List Concept) (k : Concept) (c : ℕ) (j : Concept) → At (cs ++ k ∷ []) c j → At cs c j ⊎ (k ≡ j)
@@ -104,6 +135,7 @@ kept-concept v w k i h r t = record {
     opposite = λ c d x. subst (λ (cs : List Concept). Opposite cs c d) (sym more) (opposite-append (concepts v) (k ∷ []) c d (t .mates-kept .opposite c d x));
     each-other = t .mates-kept .each-other;
   });
+  axioms-kept = rw (h .3) (t .axioms-kept);
   axioms-stand = rw (h .3) (λ c m. subst (λ (cs : List Concept). c < length cs) (sym more) (let l = t .axioms-stand c m in omega (arith, length-push (concepts v) k)));
 }
   where
@@ -179,5 +211,6 @@ kept-pair v w c d h t =
       roles-kept = rw (h .2) (t .roles-kept);
       concepts-kept = rw (h .3) (t .concepts-kept);
       mates-kept = rw (h .3) (kept-joined (v .mates) (w .mates) c d c< d< (h .1) (t .mates-kept .whole) (concepts v) (p .first-is-single) (p .second-is-single) opp (t .mates-kept));
+      axioms-kept = rw (h .4) (t .axioms-kept);
       axioms-stand = rw (h .3, h .4) (t .axioms-stand);
     }

@@ -12,6 +12,7 @@ use Rattle.logic.specs.Concepts.{parts, At}
 use Rattle.logic.specs.Opposites.{Opposite}
 use Rattle.vocabulary.specs.declared.Vocabulary.{Vocabulary}
 use Rattle.vocabulary.specs.declared.mates.Mates.{Mates}
+use Rattle.vocabulary.specs.Axioms.{AxiomsKept}
 use Rattle.vocabulary.specs.Roles.{RolesKept}
 use Rattle.vocabulary.specs.Pairing.{AreMates}
 use Rattle.vocabulary.specs.Vocabularies.{concepts, axioms}
@@ -48,4 +49,5 @@ pub record Kept (v : Vocabulary) : Type 0 where
   pub roles-kept : RolesKept (v .roles)
   pub concepts-kept : ConceptsKept (v .concepts)
   pub mates-kept : MatesKept (concepts v) (v .mates)
+  pub axioms-kept : AxiomsKept (v .axioms)
   pub axioms-stand : AxiomsStand (concepts v) (axioms v)

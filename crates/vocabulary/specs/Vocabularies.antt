@@ -10,7 +10,8 @@ use Rattle.std.specs.declared.option.Option.the-variants.{Some, None}
 use Rattle.std.specs.declared.result.Result.{Result}
 use Rattle.register.specs.declared.store.Unfit.{Unfit}
 use Rattle.register.specs.Registers.{entries, Pushed}
-use Rattle.register.specs.Lists.{listed, Added}
+use Rattle.register.specs.Lists.{listed}
+use Rattle.bits.specs.Bits.{has}
 use Rattle.logic.specs.declared.concept.Concept.{Concept}
 use Rattle.logic.specs.declared.concept.Concept.the-variants.{Top}
 use Rattle.logic.specs.declared.role.RoleAxiom.{RoleAxiom}
@@ -18,6 +19,7 @@ use Rattle.logic.specs.Concepts.{parts, tag, first, second}
 use Rattle.vocabulary.specs.declared.Vocabulary.{Vocabulary}
 use Rattle.vocabulary.specs.declared.mates.Mates.{Mates}
 use Rattle.vocabulary.specs.Mates.{mate, are-mates, Joined}
+use Rattle.vocabulary.specs.Axioms.{AxiomAdded}
 use Rattle.vocabulary.specs.Roles.{role-axioms, RolesKept, RoleAxiomFiled}
 
 -- the standing concepts, by number
@@ -30,7 +32,11 @@ concept-at v c = cond (ltb c (length (concepts v))) (Some (getD (concepts v) c T
 
 -- the concepts that hold of every element, in filing order
 abbrev pub axioms : Vocabulary → List ℕ
-axioms v = listed (v .axioms)
+axioms v = listed (v .axioms .list)
+
+-- whether concept c is an axiom, by the row
+abbrev pub axiom? : Vocabulary → ℕ → Bool
+axiom? v c = has (v .axioms .row) c
 
 -- nothing filed, nothing paired
 pub record New (v : Vocabulary) : Type 0 where
@@ -39,6 +45,7 @@ pub record New (v : Vocabulary) : Type 0 where
   pub no-concept : concepts v ≡ []
   pub no-mate : v .mates .of ≡ replicate 1024 None
   pub no-axiom : axioms v ≡ []
+  pub no-axiom-bit : v .axioms .row ≡ replicate 16 0
 
 -- v becomes w as concept k is filed
 abbrev pub ConceptFiled : Vocabulary → Vocabulary → Concept → Result ℕ Unfit → Type 0
@@ -50,7 +57,7 @@ RolesFiled v w a r = RoleAxiomFiled (v .roles) (w .roles) a r × (w .concepts �
 
 -- v becomes w as concept c is filed as an axiom
 abbrev pub AxiomFiled : Vocabulary → Vocabulary → ℕ → Option ℕ → Type 0
-AxiomFiled v w c r = Added (v .axioms) (w .axioms) c r × (w .roles ≡ v .roles) × (w .concepts ≡ v .concepts) × (w .mates ≡ v .mates)
+AxiomFiled v w c r = AxiomAdded (v .axioms) (w .axioms) c r × (w .roles ≡ v .roles) × (w .concepts ≡ v .concepts) × (w .mates ≡ v .mates)
 
 -- k is written as the negation of j, where the tag of j is the smaller one: tags 0 and 1; tags 2 and 3 with one name;
 -- tags 4 and 5 whose first parts are mates and whose second parts are mates; tags 6 and 7 with one role whose parts are mates

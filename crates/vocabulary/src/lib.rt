@@ -1,3 +1,4 @@
+pub mod axioms;
 pub mod mates;
 pub mod roles;
 
@@ -6,15 +7,15 @@ ghost use Prim.Native.Nat.{min};
 ghost use lib.ListN.{length};
 ghost use Rattle.register.specs.Registers.{entries, room};
 ghost use Rattle.logic.specs.Roles.{NamesBelow};
-ghost use Rattle.vocabulary.specs.Mates.{mate};
+ghost use Rattle.vocabulary.specs.Mates.{mate, are-mates};
 ghost use Rattle.vocabulary.specs.Roles.{role-axioms, below?, transitive?};
-ghost use Rattle.vocabulary.specs.Vocabularies.{concepts, concept-at, axioms, opposed, pairable, New, ConceptFiled, RolesFiled, AxiomFiled, Paired};
+ghost use Rattle.vocabulary.specs.Vocabularies.{concepts, concept-at, axioms, axiom?, opposed, pairable, New, ConceptFiled, RolesFiled, AxiomFiled, Paired};
+use crate::axioms::Axioms;
 use crate::mates::Mates;
 use crate::roles::Roles;
 use logic::concept::Concept;
 use logic::concept::ConceptEntry;
 use logic::role::RoleAxiom;
-use register::bounded::Bounded;
 use register::store::Register;
 use register::store::Unfit;
 
@@ -24,7 +25,7 @@ pub struct Vocabulary<'a> {
     roles: Roles,
     concepts: Register<'a, Concept>,
     mates: Mates,
-    axioms: Bounded<u16, 256>,
+    axioms: Axioms,
 }
 
 impl<'a> Vocabulary<'a> {
@@ -36,7 +37,7 @@ impl<'a> Vocabulary<'a> {
             roles: Roles::new(),
             concepts: Register::over(slots, capacity),
             mates: Mates::new(),
-            axioms: Bounded::new(0),
+            axioms: Axioms::new(),
         }
     }
 
@@ -116,6 +117,27 @@ impl<'a> Vocabulary<'a> {
         ensures { λ r. ⌜ now r ≡ axioms (now (self .entry)) ⌝ }
     {
         self.axioms.list()
+    }
+
+    // The axioms as a row of bits.
+    pub fn axiom_row(&self) -> [u64; 16]
+        ensures { λ r. ⌜ r ≡ now (self .entry) .axioms .row ⌝ }
+    {
+        self.axioms.row()
+    }
+
+    // Whether the concept is an axiom.
+    pub fn is_axiom(&self, c: u16) -> bool
+        ensures { λ r. ⌜ r ≡ axiom? (now (self .entry)) c ⌝ }
+    {
+        self.axioms.has(c)
+    }
+
+    // Whether the two are mates.
+    pub fn are_mates(&self, c: u16, d: u16) -> bool
+        ensures { λ r. ⌜ r ≡ are-mates (now (self .entry) .mates) c d ⌝ }
+    {
+        self.mates.are_mates(c, d)
     }
 
     // Files a concept as one that holds of every element; None if the list is full.
