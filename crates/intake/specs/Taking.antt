@@ -15,7 +15,7 @@ use Rattle.docket.specs.Calls.{Call, inclusion, transitivity, concept, pair, ge
 use Rattle.records.specs.declared.record.Record.{Record}
 use Rattle.records.specs.declared.record.Record.the-variants.{Inclusion, Transitivity, Concept, Pair, Axiom, Seal, Line, Claim, CloseEmpty, CloseInhabited}
 use Rattle.records.specs.declared.record.Frame.{Frame}
-use Rattle.records.specs.Bytes.{field}
+use Rattle.bytes.specs.Bytes.{field}
 use Rattle.records.specs.Records.{kind-at, end-of, Content}
 use Rattle.records.specs.Files.{Lies}
 use Rattle.intake.specs.declared.Reply.{Reply}

@@ -4,7 +4,7 @@ ghost use Rattle.docket.specs.Runs.{Reached};
 ghost use Rattle.intake.specs.Taking.{Takes, FileTaken};
 use docket::Answer;
 use docket::Docket;
-use records::bytes::field;
+use bytes::field;
 use records::reader::Reader;
 use records::reader::count;
 use records::record::Frame;

@@ -3,7 +3,7 @@ use mathlib.Core.List.{List, [], _∷_, _++_}
 use mathlib.Core.Path.{_≡_}
 use Prim.Native.Nat.{ℕ, _-_, _<_, _≤_}
 use lib.ListN.{length}
-use Rattle.records.specs.Bytes.{part}
+use Rattle.bytes.specs.Bytes.{part}
 use Rattle.records.specs.Records.{end-of}
 
 -- From offset i on, the file's records begin at these offsets, one behind the other.

@@ -33,7 +33,7 @@ use Rattle.records.specs.declared.record.Record.{Record}
 use Rattle.records.specs.declared.record.Record.the-variants.{Inclusion, Transitivity, Concept, Pair, Axiom, Seal, Line, Claim, CloseEmpty, CloseInhabited}
 use Rattle.records.specs.declared.record.Frame.{Frame}
 use Rattle.records.specs.declared.reader.Reader.{Reader}
-use Rattle.records.specs.Bytes.{word, part}
+use Rattle.bytes.specs.Bytes.{word, part}
 
 -- the kind of the record at i; 0 if its head is cut off
 abbrev pub kind-at : List ℕ → ℕ → ℕ

@@ -2,9 +2,9 @@ ghost use mathlib.Core.Path.{_≡_};
 ghost use Prim.Native.Nat.{_<_};
 ghost use lib.ListN.{length};
 ghost use Rattle.records.specs.Records.{kind-at, end-of, Content};
-use crate::bytes::cut;
-use crate::bytes::word;
 use crate::record::Record;
+use bytes::cut;
+use bytes::word;
 use refusals::Refusal;
 
 // The kind of the record at this place; 0 if its head is cut off.

@@ -1,4 +1,3 @@
-pub mod bytes;
 mod layout;
 pub mod reader;
 pub mod record;

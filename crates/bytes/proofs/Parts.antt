@@ -7,7 +7,7 @@ use native.Mathlib.Omega.{arith}
 use lib.ListN.{length, getD, take, drop}
 use Rattle.std.proofs.shelf.Lists.{getD-past, getD-take, getD-drop, take-all, take-rest, drop-all}
 use Rattle.std.proofs.shelf.Tests.{cases-lt}
-use Rattle.records.specs.Bytes.{word, part, field}
+use Rattle.bytes.specs.Bytes.{word, part, field}
 
 -- behind the end every number is 0
 pub word-past : (f : List ℕ) (i : ℕ) → length f ≤ i → word f i ≡ 0
@@ -34,7 +34,7 @@ cut-part f i n a b p q =
     let z : b - 0 ≡ min n (length (drop i f)) = omega (arith, ap length rest) in
     rw (rest, z) (take-min n (drop i f))
 
--- a field of a part is a number of the file
+-- a field of a part is a number of the whole
 pub field-part : (f : List ℕ) (i n k : ℕ) → 2 * k + 2 ≤ n → field (part f i n) k ≡ word f (i + 2 * k)
 field-part f i n k h =
     let low = getD-take n (drop i f) (2 * k) 0 (omega arith) ∙ getD-drop i f (2 * k) 0 in

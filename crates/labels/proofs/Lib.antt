@@ -1,0 +1,3 @@
+pub mod LeastFacts
+pub mod Positions
+pub mod RowFacts
