@@ -4,7 +4,7 @@ use mathlib.Core.Path.{_≡_, refl, ap, sym, _∙_}
 use Prim.Native.Nat.{ℕ, zero, suc, _+_, _*_, _/_, _<_}
 use native.Mathlib.Omega.{arith}
 use lib.ListN.{length, getD}
-use Rattle.bytes.specs.Bytes.{word, field, numbers}
+use Rattle.bytes.specs.Bytes.{field, numbers}
 
 pub numbers-length : (f : List ℕ) → length (numbers f) ≡ length f / 2
 numbers-length [] = refl

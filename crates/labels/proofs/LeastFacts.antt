@@ -1,7 +1,7 @@
 -- The least number that passes a test.
 use mathlib.Core.Bool.{Bool, true, false}
 use mathlib.Core.Logic.{⊎-elim}
-use mathlib.Core.Path.{_≡_, refl, sym, ap, subst, _∙_}
+use mathlib.Core.Path.{_≡_, refl, sym, ap, _∙_}
 use Prim.Native.Nat.{ℕ, zero, suc, _+_, _<_, _≤_}
 use native.Mathlib.Numerals.{add-one}
 use native.Mathlib.Omega.{arith}
@@ -23,12 +23,12 @@ least-more n f h k = rw add-one (ap (λ o. found-or o (f n) n) h ∙ ap (λ b. f
 pub least-here : (m n : ℕ) (f : ℕ → Bool) → least n f ≡ None → f n ≡ true → n < m → least m f ≡ Some n
 unfolding least
 least-here zero n f h k l = absurd (omega arith)
-least-here (suc m) n f h k l = ⊎-elim
-    (λ (q : n < m). ap (λ o. found-or o (f m) m) (least-here m n f h k q))
-    (λ (q : m ≤ n).
-        let e : n ≡ m = omega arith in
-        ap (λ x. found-or (least x f) (f x) x) (sym e) ∙ ap (λ o. found-or o (f n) n) h ∙ ap (λ b. found-or None b n) k)
-    (cases-lt n m)
+least-here (suc m) n f h k l = ⊎-elim (λ q. ap (λ o. found-or o (f m) m) (least-here m n f h k q)) last (cases-lt n m)
+  where
+    last : m ≤ n → found-or (least m f) (f m) m ≡ Some n
+    last q =
+        let e : m ≡ n = omega arith in
+        ap (λ x. found-or (least x f) (f x) x) e ∙ ap (λ o. found-or o (f n) n) h ∙ ap (λ b. found-or None b n) k
 
 none-parts : (o : Option ℕ) (b : Bool) (n : ℕ) → found-or o b n ≡ None → (o ≡ None) × (b ≡ false)
 none-parts None false n h = (refl, refl)
