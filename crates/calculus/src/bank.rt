@@ -5,7 +5,6 @@ ghost use lib.Dec.{leb};
 ghost use Rattle.labels.specs.Least.{least};
 ghost use Rattle.labels.specs.Labels.{Row};
 ghost use Rattle.calculus.specs.Calculi.{Calculus, LawfulCalculus, alone, beside};
-
 use crate::rule::Principals;
 use crate::rule::Rule;
 use vocabulary::Vocabulary;
@@ -31,7 +30,14 @@ pub trait Bank {
         ensures { λ r. ⌜ r ≡ calculus (now (self .entry)) .applies rule (now (v .entry)) on (now (x .entry)) ⌝ };
 
     // Conclusion `i`, as a row.
-    fn conclusion(&self, rule: u16, v: &Vocabulary, on: Principals, x: &[u64; 16], i: u8) -> [u64; 16]
+    fn conclusion(
+        &self,
+        rule: u16,
+        v: &Vocabulary,
+        on: Principals,
+        x: &[u64; 16],
+        i: u8,
+    ) -> [u64; 16]
         ensures { λ r. ⌜ Row r (calculus (now (self .entry)) .concludes rule (now (v .entry)) on (now (x .entry)) i) ⌝ };
 }
 
@@ -56,7 +62,14 @@ pub impl<R: Rule> Bank for Single<R> as SingleBank {
         rule == self.rule.number() && self.rule.applies(v, on, x)
     }
 
-    fn conclusion(&self, rule: u16, v: &Vocabulary, on: Principals, x: &[u64; 16], i: u8) -> [u64; 16] {
+    fn conclusion(
+        &self,
+        rule: u16,
+        v: &Vocabulary,
+        on: Principals,
+        x: &[u64; 16],
+        i: u8,
+    ) -> [u64; 16] {
         self.rule.conclusion(v, on, x, i)
     }
 }
@@ -76,14 +89,33 @@ pub impl<L: Bank, R: Bank> Bank for Pair<L, R> as PairBank {
     }
 
     fn cites(&self, rule: u16) -> u8 {
-        if self.left.has(rule) { self.left.cites(rule) } else { self.right.cites(rule) }
+        if self.left.has(rule) {
+            self.left.cites(rule)
+        } else {
+            self.right.cites(rule)
+        }
     }
 
     fn applies(&self, rule: u16, v: &Vocabulary, on: Principals, x: &[u64; 16]) -> bool {
-        if self.left.has(rule) { self.left.applies(rule, v, on, x) } else { self.right.applies(rule, v, on, x) }
+        if self.left.has(rule) {
+            self.left.applies(rule, v, on, x)
+        } else {
+            self.right.applies(rule, v, on, x)
+        }
     }
 
-    fn conclusion(&self, rule: u16, v: &Vocabulary, on: Principals, x: &[u64; 16], i: u8) -> [u64; 16] {
-        if self.left.has(rule) { self.left.conclusion(rule, v, on, x, i) } else { self.right.conclusion(rule, v, on, x, i) }
+    fn conclusion(
+        &self,
+        rule: u16,
+        v: &Vocabulary,
+        on: Principals,
+        x: &[u64; 16],
+        i: u8,
+    ) -> [u64; 16] {
+        if self.left.has(rule) {
+            self.left.conclusion(rule, v, on, x, i)
+        } else {
+            self.right.conclusion(rule, v, on, x, i)
+        }
     }
 }

@@ -5,7 +5,6 @@ ghost use lib.Dec.{leb};
 ghost use Rattle.labels.specs.Least.{least};
 ghost use Rattle.labels.specs.Labels.{Row};
 ghost use Rattle.calculus.specs.Schemas.{Schema, Lawful};
-
 use bits;
 use labels::rows::next_from;
 use vocabulary::Vocabulary;
@@ -21,8 +20,10 @@ pub struct Principals {
 // A rule of the calculus. It says when a step applies to a label, and which standing concepts its conclusions have. It
 // refuses nothing, and asking alters nothing.
 pub trait Rule {
-    const NUMBER: u16;
-    const CITES: u8;
+    // Its number, and how many lines a step by it cites: 0 to 2.
+    const RULE_NUMBER: u16;
+
+    const CITED_LINES: u8;
 
     // what the rule says
     ghost schema: { Self → Schema };
@@ -30,7 +31,7 @@ pub trait Rule {
     // if an element has all of the label, and the step applies, some element has all of one of the conclusions
     law lawful: { (r : Self) → Lawful (schema r) };
 
-    // The rule's number.
+    // Its number, where a contract can speak of it.
     fn number(&self) -> u16
         ensures { λ r. ⌜ r ≡ schema (now (self .entry)) .number ⌝ };
 

@@ -2,9 +2,9 @@ pub mod show;
 
 ghost use Rattle.docket.specs.Runs.{Reached};
 ghost use Rattle.intake.specs.Taking.{Takes, FileTaken};
+use bytes::field;
 use docket::Answer;
 use docket::Docket;
-use bytes::field;
 use records::reader::Reader;
 use records::reader::count;
 use records::record::Frame;
