@@ -1,1 +1,3 @@
+pub mod filing;
 pub mod line;
+pub mod members;

@@ -1,4 +1,7 @@
-ghost use Rattle.book.specs.Lines.{cited-lines};
+ghost use mathlib.Core.Path.{_≡_};
+ghost use Rattle.book.specs.Lines.{cited-lines, citing};
+
+use calculus::rule::Principals;
 use register::entry::Entry;
 
 // The lines that a step cites, in the order of its rule's conclusions.
@@ -9,13 +12,24 @@ pub enum Cited {
     Two(u16, u16),
 }
 
-// One step of a tableau: a rule with the concepts that it is applied to, and the lines that it cites.
+impl Cited {
+    // The first `count` of the two lines.
+    pub fn first(count: u8, m: u16, n: u16) -> Cited
+        ensures { λ r. ⌜ r ≡ citing count m n ⌝ }
+    {
+        match count {
+            0 => Cited::Nothing,
+            1 => Cited::One(m),
+            _ => Cited::Two(m, n),
+        }
+    }
+}
+
+// One step of a tableau: a rule, the concepts that it names, and the lines that it cites.
 #[derive(Clone, Copy)]
 pub struct Step {
     pub rule: u16,
-    pub p: u16,
-    pub q: u16,
-    pub s: u16,
+    pub on: Principals,
     pub cited: Cited,
 }
 

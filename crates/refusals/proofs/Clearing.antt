@@ -1,6 +1,6 @@
 -- What it says that no row refuses.
 use mathlib.Core.Bool.{Bool, true, false, not}
-use mathlib.Core.List.{List, [], _∷_}
+use mathlib.Core.List.{List, [], _∷_, _++_}
 use mathlib.Core.Logic.{⊎-elim}
 use mathlib.Core.Path.{_≡_, refl, sym, ap, _∙_}
 use Prim.Native.Nat.{ℕ, _<_, _≤_}
@@ -44,3 +44,15 @@ leb-false m n h = ⊎-elim
     (λ (l : n < m). l)
     (λ (l : m ≤ n). let z : true ≡ false = sym (le-leb m n l) ∙ h in let y : _≡_ {A = ℕ} 0 1 = cc in absurd (omega arith))
     (cases-lt n m)
+
+-- rows behind others
+pub first-append : {A : Type 0} (xs ys : List (Option A)) → first (xs ++ ys) ≡ otherwise (first xs) (first ys)
+first-append [] ys = refl
+first-append (None ∷ xs) ys = first-append xs ys
+first-append (Some x ∷ xs) ys = refl
+
+pub first-behind : {A : Type 0} (xs ys : List (Option A)) (r : Option A) → first xs ≡ None → first ys ≡ r → first (xs ++ ys) ≡ r
+first-behind xs ys r h k = first-append xs ys ∙ ap (λ o. otherwise o (first ys)) h ∙ k
+
+pub first-before : {A : Type 0} (xs ys : List (Option A)) (x : A) → first xs ≡ Some x → first (xs ++ ys) ≡ Some x
+first-before xs ys x h = first-append xs ys ∙ ap (λ o. otherwise o (first ys)) h

@@ -18,3 +18,8 @@ otherwise None y = y
 abbrev pub first : {A : Type 0} → List (Option A) → Option A
 first [] = None
 first (x ∷ xs) = otherwise x (first xs)
+
+-- the refusal that a value found asks for
+abbrev pub with : {A B : Type 0} → (A → B) → Option A → Option B
+with f None = None
+with f (Some x) = Some (f x)
