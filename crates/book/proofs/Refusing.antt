@@ -26,8 +26,8 @@ module _ (k : Calculus) (v : Vocabulary) (ls : List Line) (room : ℕ) (f : Draf
       → first (draft-rows k v ls room f) ≡ Some x
   rising-refused x named free h = first-behind (range-rows k f) (absent-rows k v ls f ++ late-rows k v ls room f) (Some x) ranged
       (first-behind (absent-rows k v ls f) (late-rows k v ls room f) (Some x) named
-          (ap (λ o. otherwise o (first order)) (none-when (leb room (length ls)) (Full room) (lt-leb room (length ls) free))
-              ∙ first-before (with (λ i. Order (i + 6)) (falling-at (members f)) ∷ []) (licence-rows k v ls f) x h))
+      (ap (λ o. otherwise o (first order)) (none-when (leb room (length ls)) (Full room) (lt-leb room (length ls) free))
+      ∙ first-before (with (λ i. Order (i + 6)) (falling-at (members f)) ∷ []) (licence-rows k v ls f) x h))
     where
       order : List (Option Refusal)
       order = with (λ i. Order (i + 6)) (falling-at (members f)) ∷ licence-rows k v ls f

@@ -1,6 +1,7 @@
 -- A line as it is handed over, what speaks against it, and when it is licensed.
 use mathlib.Core.Bool.{Bool, true, false, cond, not, _&&_}
 use mathlib.Core.List.{List, [], _∷_, _++_}
+use mathlib.Core.Logic.{_↔_}
 use mathlib.Core.Path.{_≡_}
 use Prim.Native.Nat.{ℕ, _+_, _<_}
 use lib.Dec.{eqb, ltb, leb}
@@ -49,34 +50,34 @@ least-outside y f = least 1024 (λ c. has y c && not (f c))
 abbrev pub unfit : Calculus → Vocabulary → List Line → Draft → List ℕ → Option ℕ
 unfit k v ls f x = first (
     cond (ltb 0 (k .cites (f .rule))) (least-outside (label-of ls (f .m)) (conclusion k v f x 0)) None
-  ∷ cond (ltb 1 (k .cites (f .rule))) (least-outside (label-of ls (f .n)) (conclusion k v f x 1)) None ∷ [])
+    ∷ cond (ltb 1 (k .cites (f .rule))) (least-outside (label-of ls (f .n)) (conclusion k v f x 1)) None ∷ [])
 
 -- what filing a draft checks, in this order, where there is room for so many lines
 abbrev pub range-rows : Calculus → Draft → List (Option Refusal)
 range-rows k f =
     when (not (k .has (f .rule))) (Range 0)
-  ∷ when (ltb (k .cites (f .rule)) 1 && not (eqb (f .m) 0)) (Range 4)
-  ∷ when (ltb (k .cites (f .rule)) 2 && not (eqb (f .n) 0)) (Range 5) ∷ []
+    ∷ when (ltb (k .cites (f .rule)) 1 && not (eqb (f .m) 0)) (Range 4)
+    ∷ when (ltb (k .cites (f .rule)) 2 && not (eqb (f .n) 0)) (Range 5) ∷ []
 
 abbrev pub absent-rows : Calculus → Vocabulary → List Line → Draft → List (Option Refusal)
 absent-rows k v ls f =
     when (leb (length (concepts v)) (f .on .p)) (Absent 1)
-  ∷ when (leb (length (concepts v)) (f .on .q)) (Absent 2)
-  ∷ when (leb (length (concepts v)) (f .on .s)) (Absent 3)
-  ∷ when (ltb 0 (k .cites (f .rule)) && leb (length ls) (f .m)) (Absent 4)
-  ∷ when (ltb 1 (k .cites (f .rule)) && leb (length ls) (f .n)) (Absent 5)
-  ∷ with (λ i. Absent (i + 6)) (absent-at (length (concepts v)) (members f)) ∷ []
+    ∷ when (leb (length (concepts v)) (f .on .q)) (Absent 2)
+    ∷ when (leb (length (concepts v)) (f .on .s)) (Absent 3)
+    ∷ when (ltb 0 (k .cites (f .rule)) && leb (length ls) (f .m)) (Absent 4)
+    ∷ when (ltb 1 (k .cites (f .rule)) && leb (length ls) (f .n)) (Absent 5)
+    ∷ with (λ i. Absent (i + 6)) (absent-at (length (concepts v)) (members f)) ∷ []
 
 abbrev pub licence-rows : Calculus → Vocabulary → List Line → Draft → List (Option Refusal)
 licence-rows k v ls f =
     when (not (k .applies (f .rule) v (f .on) (label f))) (Inapplicable (f .rule))
-  ∷ with Unlicensed (unfit k v ls f (label f)) ∷ []
+    ∷ with Unlicensed (unfit k v ls f (label f)) ∷ []
 
 abbrev pub late-rows : Calculus → Vocabulary → List Line → ℕ → Draft → List (Option Refusal)
 late-rows k v ls room f =
     when (leb room (length ls)) (Full room)
-  ∷ with (λ i. Order (i + 6)) (falling-at (members f))
-  ∷ licence-rows k v ls f
+    ∷ with (λ i. Order (i + 6)) (falling-at (members f))
+    ∷ licence-rows k v ls f
 
 abbrev pub draft-rows : Calculus → Vocabulary → List Line → ℕ → Draft → List (Option Refusal)
 draft-rows k v ls room f = range-rows k f ++ (absent-rows k v ls f ++ late-rows k v ls room f)
@@ -96,3 +97,22 @@ pub record Licensed (k : Calculus) (v : Vocabulary) (ls : List Line) (f : Draft)
   pub applies : k .applies (f .rule) v (f .on) (label f) ≡ true
   pub first-within : 0 < k .cites (f .rule) → (c : ℕ) → c < 1024 → has (label-of ls (f .m)) c ≡ true → conclusion k v f (label f) 0 c ≡ true
   pub second-within : 1 < k .cites (f .rule) → (c : ℕ) → c < 1024 → has (label-of ls (f .n)) c ≡ true → conclusion k v f (label f) 1 c ≡ true
+
+-- ALL THAT FILING ASKS OF A DRAFT, where there is room for so many lines
+pub record Admitted (k : Calculus) (v : Vocabulary) (ls : List Line) (room : ℕ) (f : Draft) : Type 0 where
+  pub known : k .has (f .rule) ≡ true
+  pub first-unused : k .cites (f .rule) < 1 → f .m ≡ 0
+  pub second-unused : k .cites (f .rule) < 2 → f .n ≡ 0
+  pub p-stands : f .on .p < length (concepts v)
+  pub q-stands : f .on .q < length (concepts v)
+  pub s-stands : f .on .s < length (concepts v)
+  pub first-stands : 0 < k .cites (f .rule) → f .m < length ls
+  pub second-stands : 1 < k .cites (f .rule) → f .n < length ls
+  pub members-stand : absent-at (length (concepts v)) (members f) ≡ None
+  pub free : length ls < room
+  pub rising : falling-at (members f) ≡ None
+  pub licensed : Licensed k v ls f
+
+-- the rows of a draft are clear exactly if it is admitted
+abbrev pub RowsAreRight : Type 0
+RowsAreRight = (k : Calculus) (v : Vocabulary) (ls : List Line) (room : ℕ) (f : Draft) → first (draft-rows k v ls room f) ≡ None ↔ Admitted k v ls room f

@@ -1,7 +1,6 @@
 ghost use mathlib.Core.Path.{_≡_};
 ghost use Rattle.book.specs.Lines.{label-of};
-ghost use Rattle.book.specs.Drafts.{Checked, Passed, range-rows, absent-rows, unfit, least-outside, conclusion};
-
+ghost use Rattle.book.specs.Drafts.{Checked, RowsAreRight, Passed, range-rows, absent-rows, unfit, least-outside, conclusion};
 use crate::line::Cited;
 use crate::line::Line;
 use crate::line::Step;
@@ -67,7 +66,14 @@ fn check_named<B: Bank>(bank: &B, v: &Vocabulary, lines: &[Line], f: &Draft) -> 
 }
 
 // The least concept of the row `y` that is outside conclusion `i`.
-fn outside_conclusion<B: Bank>(bank: &B, v: &Vocabulary, f: &Draft, x: &[u64; 16], i: u8, y: &[u64; 16]) -> Option<u16>
+fn outside_conclusion<B: Bank>(
+    bank: &B,
+    v: &Vocabulary,
+    f: &Draft,
+    x: &[u64; 16],
+    i: u8,
+    y: &[u64; 16],
+) -> Option<u16>
     ensures { λ r. ⌜ r ≡ least-outside (now (y .entry)) (conclusion (B·Bank .calculus (now (bank .entry))) (now (v .entry)) (now (f .entry)) (now (x .entry)) i) ⌝ }
 {
     let row = bank.conclusion(f.rule, v, f.on, x, i);
@@ -79,11 +85,21 @@ fn label_of(lines: &[Line], k: u16) -> [u64; 16]
     ensures { λ r. ⌜ r ≡ label-of (now (lines .entry)) k ⌝ }
 {
     let k = k as usize;
-    if k < lines.len() { lines[k].label } else { [0; 16] }
+    if k < lines.len() {
+        lines[k].label
+    } else {
+        [0; 16]
+    }
 }
 
 // The least concept of the first cited line that lies outside its conclusion.
-fn first_unfit<B: Bank>(bank: &B, v: &Vocabulary, lines: &[Line], f: &Draft, x: &[u64; 16]) -> Option<u16>
+fn first_unfit<B: Bank>(
+    bank: &B,
+    v: &Vocabulary,
+    lines: &[Line],
+    f: &Draft,
+    x: &[u64; 16],
+) -> Option<u16>
     ensures { λ r. ⌜ r ≡ unfit (B·Bank .calculus (now (bank .entry))) (now (v .entry)) (now (lines .entry)) (now (f .entry)) (now (x .entry)) ⌝ }
 {
     let cites = bank.cites(f.rule);
@@ -101,7 +117,13 @@ fn first_unfit<B: Bank>(bank: &B, v: &Vocabulary, lines: &[Line], f: &Draft, x: 
 }
 
 // The line that a draft becomes, where `room` lines can stand; or why it is refused.
-pub fn check<B: Bank>(bank: &B, v: &Vocabulary, lines: &[Line], room: usize, f: &Draft) -> Result<Line, Refusal>
+pub fn check<B: Bank>(
+    bank: &B,
+    v: &Vocabulary,
+    lines: &[Line],
+    room: usize,
+    f: &Draft,
+) -> Result<Line, Refusal>
     ensures { λ r. ⌜ Checked (B·Bank .calculus (now (bank .entry))) (now (v .entry)) (now (lines .entry)) room (now (f .entry)) r ⌝ }
 {
     check_range(bank, f)?;
@@ -118,5 +140,18 @@ pub fn check<B: Bank>(bank: &B, v: &Vocabulary, lines: &[Line], room: usize, f: 
         return Err(Refusal::Unlicensed(c));
     }
     let cited = Cited::first(bank.cites(f.rule), f.m, f.n);
-    Ok(Line { step: Step { rule: f.rule, on: f.on, cited }, label })
+    Ok(Line {
+        step: Step {
+            rule: f.rule,
+            on: f.on,
+            cited,
+        },
+        label,
+    })
 }
+
+// That no row of the table speaks against a draft says exactly that it is admitted, licence and all. A call of it does
+// nothing; that it is proved says that it holds.
+pub fn rows_are_right()
+    ensures { λ _. ⌜ RowsAreRight ⌝ }
+{}

@@ -1,6 +1,5 @@
 ghost use mathlib.Core.Path.{_≡_};
 ghost use Rattle.book.specs.Lines.{cited-lines, citing};
-
 use calculus::rule::Principals;
 use register::entry::Entry;
 

@@ -5,7 +5,6 @@ ghost use Rattle.labels.specs.Labels.{absent-at, falling-at};
 ghost use Rattle.refusals.specs.Checks.{with};
 ghost use Rattle.refusals.specs.declared.Refusal.the-variants.{Absent, Order};
 ghost use Rattle.book.specs.Drafts.{Passed};
-
 use labels::members::first_absent;
 use labels::members::first_falling;
 use refusals::Refusal;

@@ -20,7 +20,7 @@ use Rattle.vocabulary.proofs.Keeping.{kept-new, kept-role-axiom, kept-concept, 
 use Rattle.docket.specs.declared.Docket.{Docket}
 use Rattle.docket.specs.Fields.{use-of-first, out-of-range, Written}
 use Rattle.docket.specs.Dockets.{Fresh, count}
-use Rattle.docket.specs.Calls.{Call, inclusion, transitivity, concept, pair, general, seal, all-rows, Acts}
+use Rattle.docket.specs.Calls.{Call, inclusion, transitivity, concept, pair, general, seal, line, all-rows, Acts}
 use Rattle.docket.specs.Runs.{Reached, began, called}
 
 -- what is written within its range is in range
@@ -36,17 +36,18 @@ in-range t a b (Exists r c) w h = subst (λ (x : ℕ). x < 128) (sym (w .has-fir
 
 acts-kept : (c : Call) (d e : Docket) (a : Result ℕ Refusal) → Acts c d a e → Kept (d .vocabulary) → Kept (e .vocabulary)
 acts-kept c d e (Err f) h t = subst (λ (x : Docket). Kept (x .vocabulary)) (sym (h .1)) t
-acts-kept (inclusion r s) d e (Ok i) h t = kept-role-axiom (d .vocabulary) (e .vocabulary) _ i (h .1) t
-acts-kept (transitivity r) d e (Ok i) h t = kept-role-axiom (d .vocabulary) (e .vocabulary) _ i (h .1) t
+acts-kept (inclusion r s) d e (Ok i) h t = kept-role-axiom (d .vocabulary) (e .vocabulary) _ i (h .1 .0) t
+acts-kept (transitivity r) d e (Ok i) h t = kept-role-axiom (d .vocabulary) (e .vocabulary) _ i (h .1 .0) t
 acts-kept (concept n a b) d e (Ok i) h t =
     let r = clear (all-rows (concept n a b) d) (h .0) in
     kept-concept (d .vocabulary) (e .vocabulary) (h .1 .0) i (h .1 .2) (in-range n a b (h .1 .0) (h .1 .1) (when-none (out-of-range (use-of-first n) a) _ (r .1 .1 .0))) t
 acts-kept (pair x y) d e (Ok i) h t = kept-pair (d .vocabulary) (e .vocabulary) x y (h .1 .0) t
 acts-kept (general c) d e (Ok i) h t =
     let r = clear (all-rows (general c) d) (h .0) in
-    kept-axiom (d .vocabulary) (e .vocabulary) c i (h .1) (leb-false (count d) c (when-none (leb (count d) c) _ (r .1 .0))) t
+    kept-axiom (d .vocabulary) (e .vocabulary) c i (h .1 .0) (leb-false (count d) c (when-none (leb (count d) c) _ (r .1 .0))) t
 acts-kept seal d e (Ok i) h t = subst Kept (sym (h .1 .0)) t
+acts-kept (line k f) d e (Ok i) h t = subst Kept (sym (h .1 .1)) t
 
 pub reached-kept : (d : Docket) → Reached d → Kept (d .vocabulary)
 reached-kept d (began f) = kept-new (d .vocabulary) (f .nothing-said) (f .concept-room .1)
-reached-kept d (called {d = e} c a p h) = acts-kept c e d a h (reached-kept e p)
+reached-kept d (called {d = e} c a p l h) = acts-kept c e d a h (reached-kept e p)

@@ -1,4 +1,4 @@
-ghost use Rattle.docket.specs.Calls.{Acts, inclusion, transitivity, concept, pair, general, seal};
+ghost use Rattle.docket.specs.Calls.{Acts, inclusion, transitivity, concept, pair, general, seal, line};
 ghost use Rattle.docket.specs.Dockets.{Entered};
 ghost use Rattle.docket.specs.Questions.{PairingIsRight, MeansTheSame};
 ghost use Rattle.docket.specs.Runs.{Reached};
@@ -7,6 +7,10 @@ use crate::Docket;
 use crate::fields::read_concept;
 use crate::phase::Kind;
 use crate::phase::Phase;
+use book::filing::Draft;
+use book::filing::check;
+use book::line::LineEntry;
+use calculus::bank::Bank;
 use logic::role::ROLES;
 use logic::role::RoleAxiom;
 use refusals::Refusal;
@@ -26,7 +30,9 @@ impl<'a> Docket<'a> {
                 self.phase = Phase::Sealed;
                 Ok(())
             }
-            (Phase::Sealed, Kind::RoleAxiom | Kind::Axiom | Kind::Seal) => Err(Refusal::Phase),
+            (Phase::Sealed, Kind::Line) => Ok(()),
+            (Phase::Sealed, Kind::RoleAxiom | Kind::Axiom | Kind::Seal)
+            | (Phase::Open, Kind::Line) => Err(Refusal::Phase),
         }
     }
 
@@ -113,5 +119,23 @@ impl<'a> Docket<'a> {
     {
         self.enter(Kind::Seal)?;
         Ok(0)
+    }
+
+    // Files a line, if the rules of the bank license it.
+    pub fn file_line<B: Bank>(&mut self, bank: &B, draft: &Draft) -> Answer
+        ensures { λ a. ⌜ Acts (line (B·Bank .calculus (now (bank .entry))) (now (draft .entry))) (now (self .entry)) a (now (self .exit)) ⌝ }
+    {
+        self.enter(Kind::Line)?;
+        let line = check(
+            bank,
+            &self.vocabulary,
+            self.book.entries(),
+            self.book.room(),
+            draft,
+        )?;
+        match self.book.push(line) {
+            Ok(number) => Ok(number),
+            Err(_) => Err(Refusal::Full(self.book.room())),
+        }
     }
 }

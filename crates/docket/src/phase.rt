@@ -13,4 +13,5 @@ pub enum Kind {
     Pair,
     Axiom,
     Seal,
+    Line,
 }

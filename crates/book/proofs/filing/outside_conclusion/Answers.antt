@@ -9,4 +9,4 @@ use Rattle.book.proofs.filing.outside_conclusion.Needs as need
 pub returns : need.returns
 returns g c = c .first-outside .ensures ∙ least-ext 1024 _ _ (λ k l.
     ap (λ b. has (c .args .y .now) k && not b) (c .conclusion-row .ensures .1 k
-        ∙ ap (λ b. b && conclusion (g .B·Bank .calculus (c .args .bank .now)) (c .args .v .now) (c .args .f .now) (c .args .x .now) (c .args .i) k) (lt-ltb k 1024 l)))
+    ∙ ap (λ b. b && conclusion (g .B·Bank .calculus (c .args .bank .now)) (c .args .v .now) (c .args .f .now) (c .args .x .now) (c .args .i) k) (lt-ltb k 1024 l)))
