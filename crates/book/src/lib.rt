@@ -1,3 +1,4 @@
 pub mod filing;
 pub mod line;
 pub mod members;
+pub mod search;
