@@ -1,6 +1,5 @@
 ghost use mathlib.Core.Path.{_≡_};
 ghost use Rattle.book.specs.Lines.{lies-within, first-within};
-
 use crate::line::Line;
 use labels::rows::first_outside;
 

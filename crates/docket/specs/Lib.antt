@@ -4,3 +4,4 @@ pub mod Dockets
 pub mod Calls
 pub mod Runs
 pub mod Questions
+pub mod Conclusions

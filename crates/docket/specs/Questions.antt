@@ -3,7 +3,7 @@ use mathlib.Core.Bool.{Bool, true}
 use mathlib.Core.List.{List, [], _∷_}
 use mathlib.Core.Logic.{_↔_}
 use mathlib.Core.Path.{_≡_}
-use Prim.Native.Nat.{ℕ, _<_}
+use Prim.Native.Nat.{ℕ, _+_, _<_}
 use lib.Dec.{leb}
 use lib.ListN.{length}
 use Rattle.std.specs.declared.option.Option.{Option}
@@ -11,8 +11,9 @@ use Rattle.std.specs.declared.option.Option.the-variants.{Some, None}
 use Rattle.std.specs.declared.result.Result.{Result}
 use Rattle.std.specs.declared.result.Result.the-variants.{Ok, Err}
 use Rattle.refusals.specs.declared.Refusal.{Refusal}
-use Rattle.refusals.specs.declared.Refusal.the-variants.{Phase, Range, Absent, Unpaired}
-use Rattle.refusals.specs.Checks.{when, first}
+use Rattle.refusals.specs.declared.Refusal.the-variants.{Phase, Range, Absent, Order, Unpaired}
+use Rattle.refusals.specs.Checks.{when, with, first}
+use Rattle.labels.specs.Labels.{absent-at, falling-at}
 use Rattle.logic.specs.declared.role.RoleAxiom.{RoleAxiom}
 use Rattle.logic.specs.Roles.{Below, Transitive}
 use Rattle.logic.specs.Interpretations.{Interpretation, Includes, IsTransitive, MeetsRoleAxioms}
@@ -44,6 +45,10 @@ transitive-rows d r = when (is-open (d .phase)) Phase ∷ when (leb 128 r) (Rang
 
 abbrev pub mate-rows : Docket → ℕ → List (Option Refusal)
 mate-rows d c = when (leb (count d) c) (Absent 0) ∷ []
+
+-- a label alone, with these members
+abbrev pub label-rows : Docket → List ℕ → List (Option Refusal)
+label-rows d ms = with (λ i. Absent (i + 0)) (absent-at (count d) ms) ∷ with (λ i. Order (i + 0)) (falling-at ms) ∷ []
 
 -- yes exactly if r is below s; and then every interpretation that meets the role axioms has the pairs of r among those of s
 pub record SaysBelow (d : Docket) (r s : ℕ) (b : Bool) : Type 0 where

@@ -1,3 +1,4 @@
+pub mod conclusion;
 pub mod fields;
 pub mod filing;
 pub mod phase;

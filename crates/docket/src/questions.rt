@@ -1,10 +1,19 @@
 ghost use mathlib.Core.Path.{_≡_};
+ghost use Rattle.book.specs.Lines.{first-within};
+ghost use Rattle.bytes.specs.Bytes.{numbers};
+ghost use Rattle.labels.specs.Labels.{row};
 ghost use Rattle.vocabulary.specs.Mates.{mate};
 ghost use Rattle.vocabulary.specs.Roles.{below?, transitive?};
-ghost use Rattle.docket.specs.Questions.{Answered, OfValue, below-rows, transitive-rows, mate-rows, SaysBelow, SaysTransitive, SaysMate};
+ghost use Rattle.docket.specs.Dockets.{lines};
+ghost use Rattle.docket.specs.Questions.{Answered, OfValue, below-rows, transitive-rows, mate-rows, label-rows, SaysBelow, SaysTransitive, SaysMate};
 ghost use Rattle.docket.specs.Runs.{Reached};
 use crate::Docket;
 use crate::phase::Phase;
+use book::line::LineEntry;
+use book::members::check_rising;
+use book::members::check_standing;
+use book::search::find_within;
+use labels::members::row_of;
 use logic::role::ROLES;
 use refusals::Refusal;
 
@@ -49,5 +58,14 @@ impl<'a> Docket<'a> {
             return Err(Refusal::Absent(0));
         }
         Ok(self.vocabulary.mate(c))
+    }
+
+    // The first standing line whose label lies within the label with these members.
+    pub fn first_line(&self, members: &[u8]) -> Result<Option<usize>, Refusal>
+        ensures { λ a. ⌜ Answered (label-rows (now (self .entry)) (numbers (now (members .entry)))) (λ k. k ≡ first-within (lines (now (self .entry))) (row (numbers (now (members .entry))))) a ⌝ }
+    {
+        check_standing(members, self.vocabulary.len(), 0)?;
+        check_rising(members, 0)?;
+        Ok(find_within(self.book.entries(), &row_of(members)))
     }
 }

@@ -16,14 +16,14 @@ returns-then-is-within c =
     let ls = c .args .lines .now in
     let k = c .loop-k .k in
     sym (least-here (length ls) k (λ i. lies-within (label-of ls i) (c .args .x .now)) (c .loop-k .inv)
-        (ap (λ (l : Line). lies-within (l .label) (c .args .x .now)) (sym (getD-default ls k _ blank (c .loop-k-test .taken))) ∙ sym (c .if-is-within .ensures tt)) (c .loop-k-test .taken))
+    (ap (λ (l : Line). lies-within (l .label) (c .args .x .now)) (sym (getD-default ls k _ blank (c .loop-k-test .taken))) ∙ sym (c .if-is-within .ensures tt)) (c .loop-k-test .taken))
 
 pub loop-k-again : need.loop-k-again
 loop-k-again c =
     let ls = c .args .lines .now in
     let k = c .loop-k .k in
     least-more k (λ i. lies-within (label-of ls i) (c .args .x .now)) (c .loop-k .inv)
-        (ap (λ (l : Line). lies-within (l .label) (c .args .x .now)) (sym (getD-default ls k _ blank (c .loop-k-test .taken))) ∙ sym (c .if-is-within .ensures tt))
+    (ap (λ (l : Line). lies-within (l .label) (c .args .x .now)) (sym (getD-default ls k _ blank (c .loop-k-test .taken))) ∙ sym (c .if-is-within .ensures tt))
 
 pub returns : need.returns
 returns c =
