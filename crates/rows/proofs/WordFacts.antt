@@ -1,5 +1,5 @@
 -- More of the bits of a word: of an exclusive or, and of the number whose lowest bits are ones.
-use mathlib.Core.Bool.{Bool, true, false, not, cond}
+use mathlib.Core.Bool.{true, false}
 use mathlib.Core.Logic.{⊎-elim}
 use mathlib.Core.Path.{_≡_, refl, sym, subst, ap, _∙_}
 use Prim.Native.Nat.{ℕ, zero, suc, _+_, _-_, _*_, _/_, _%_, _^_, _<_, _≤_}
@@ -11,10 +11,7 @@ use lib.Pow.{ones-split, ones-lt, pow-mono}
 use Rattle.std.proofs.shelf.Bits.{div-mul-add, pow-pos, div-below}
 use Rattle.std.proofs.shelf.Tests.{cases-lt, lt-ltb, le-ltb}
 use Rattle.bits.specs.Bits.{bit}
-
--- the bit b, turned round where t is set
-abbrev pub turned : Bool → Bool → Bool
-turned t b = cond t (not b) b
+use Rattle.rows.specs.Rows.{turned}
 
 differ-turned : (a b : ℕ) → a < 2 → b < 2 → eqb (differ a b % 2) 1 ≡ turned (eqb a 1) (eqb b 1)
 differ-turned zero zero h k = refl

@@ -1,8 +1,8 @@
-ghost use mathlib.Core.Bool.{false, not, cond, _||_, _&&_};
+ghost use mathlib.Core.Bool.{false, _||_, _&&_};
 ghost use mathlib.Core.Path.{_≡_};
 ghost use Prim.Native.Nat.{_-_, _*_, _^_, _<_, min};
 ghost use lib.Dec.{eqb, ltb};
-ghost use Rattle.rows.specs.Rows.{HasRow, contains, RowBecomes};
+ghost use Rattle.rows.specs.Rows.{HasRow, contains, turned, RowBecomes};
 
 // Sets of elements, each in a row of four words. Row c has the words 4c to 4c + 3, and the elements are 0 to 255:
 // element e is bit e mod 64 of word 4c + e div 64.
@@ -65,7 +65,7 @@ fn full_word(n: usize, w: usize) -> u64
 // Row `c` becomes its complement among the first `n` elements; the others stay as they were.
 pub fn complement(rows: &mut [u64], c: usize, n: usize)
     requires { ⌜ HasRow (now rows) c ⌝ }
-    ensures { λ _. ⌜ RowBecomes (now (rows .entry)) (now (rows .exit)) c (λ e. cond (ltb e n) (not (contains (now (rows .entry)) c e)) (contains (now (rows .entry)) c e)) ⌝ }
+    ensures { λ _. ⌜ RowBecomes (now (rows .entry)) (now (rows .exit)) c (λ e. turned (ltb e n) (contains (now (rows .entry)) c e)) ⌝ }
 {
     for w in 0..4 {
         rows[4 * c + w] ^= full_word(n, w);

@@ -3,8 +3,8 @@ use Prim.Native.Nat.{_+_, _-_, _*_, _/_, _%_, _^_, min}
 use native.Mathlib.Omega.{arith}
 use lib.Bits.{bitXor}
 use lib.ListN.{getD}
-use Rattle.rows.specs.Rows.{contains}
-use Rattle.rows.proofs.WordFacts.{turned, bit-xor}
+use Rattle.rows.specs.Rows.{contains, turned}
+use Rattle.rows.proofs.WordFacts.{bit-xor}
 use Rattle.rows.proofs.RowFacts.{words-none, words-more, words-all, full-bit}
 use Rattle.rows.proofs.complement.Needs as need
 

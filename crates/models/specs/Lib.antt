@@ -1,0 +1,4 @@
+pub mod Firsts
+pub mod Items
+pub mod Models
+pub mod Searching

@@ -1,0 +1,53 @@
+-- Models, when they are well formed, and the interpretations that they describe.
+use mathlib.Core.Path.{_≡_}
+use Prim.Native.Nat.{ℕ, _+_, _-_, _*_, _%_, _<_, _≤_}
+use lib.ListN.{length}
+use denote.Ref.{now}
+use Rattle.std.specs.declared.option.Option.{Option}
+use Rattle.std.specs.declared.option.Option.the-variants.{Some, None}
+use Rattle.logic.specs.Interpretations.{Interpretation}
+use Rattle.models.specs.declared.Model.{Model}
+use Rattle.models.specs.Firsts.{First}
+use Rattle.models.specs.Items.{marks-in, edges-in, GoodMark, GoodEdge, marked, joined}
+
+-- the numbers, the counts and the lengths are right
+pub record Sized (m : Model) : Type 0 where
+  pub inhabited : 0 < m .size
+  pub few-elements : m .size ≤ 256
+  pub pointed : m .point < m .size
+  pub few-marks : m .«mark_count» ≤ 4096
+  pub whole-marks : length (now (m .marks)) ≡ 4 * m .«mark_count»
+  pub whole-edges : length (now (m .edges)) % 6 ≡ 0
+  pub few-edges : edges-in (now (m .edges)) ≤ 4096
+
+abbrev pub MarkFits : Model → ℕ → Type 0
+MarkFits m i = GoodMark (now (m .marks)) (m .size) i
+
+abbrev pub EdgeFits : Model → ℕ → Type 0
+EdgeFits m i = GoodEdge (now (m .edges)) (m .size) i
+
+abbrev pub MarksFit : Model → Option ℕ → Type 0
+MarksFit m bad = First (MarkFits m) (marks-in (now (m .marks))) bad
+
+abbrev pub EdgesFit : Model → Option ℕ → Type 0
+EdgesFit m bad = First (EdgeFits m) (edges-in (now (m .edges))) bad
+
+pub record WellFormed (m : Model) : Type 0 where
+  pub sized : Sized m
+  pub good-marks : MarksFit m None
+  pub good-edges : EdgesFit m None
+
+-- where a model is wrong first: 0 for its numbers, counts and lengths, from 1 up for its marks and then its edges
+pub data FirstFlaw (m : Model) : ℕ → Type 0 where
+  not-sized : (Sized m → ⊥) → FirstFlaw m 0
+  bad-mark : {i : ℕ} → Sized m → MarksFit m (Some i) → FirstFlaw m (1 + i)
+  bad-edge : {i : ℕ} → Sized m → MarksFit m None → EdgesFit m (Some i) → FirstFlaw m (1 + m .«mark_count» + i)
+
+abbrev pub Flaw : Model → Option ℕ → Type 0
+Flaw m None = WellFormed m
+Flaw m (Some k) = FirstFlaw m k
+
+-- The interpretation that a model describes: its elements are numbered from 0, an element is in a name exactly if the
+-- mark is listed, and a role name leads from one to another exactly if the edge is.
+abbrev pub described : Model → Interpretation
+described m = record { last = m .size - 1; named = λ a e. marked (now (m .marks)) a e; linked = λ r x y. joined (now (m .edges)) r x y }
