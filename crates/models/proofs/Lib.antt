@@ -1,3 +1,4 @@
 pub mod Tests
 pub mod AnyFacts
 pub mod EdgeFacts
+pub mod PairFacts

@@ -2,3 +2,4 @@ pub mod Firsts
 pub mod Items
 pub mod Models
 pub mod Searching
+pub mod Pairs

@@ -1,5 +1,6 @@
 mod form;
 mod items;
+mod role_axioms;
 mod search;
 
 // A finite model as it is handed over: how many elements there are, which of them is the point, and its marks and edges.
