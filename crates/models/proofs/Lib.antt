@@ -2,3 +2,5 @@ pub mod Tests
 pub mod AnyFacts
 pub mod EdgeFacts
 pub mod PairFacts
+pub mod WalkFacts
+pub mod MeaningFacts

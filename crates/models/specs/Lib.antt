@@ -3,3 +3,4 @@ pub mod Items
 pub mod Models
 pub mod Searching
 pub mod Pairs
+pub mod Evaluation

@@ -1,3 +1,4 @@
+mod evaluation;
 mod form;
 mod items;
 mod role_axioms;
