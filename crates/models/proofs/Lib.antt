@@ -4,3 +4,4 @@ pub mod EdgeFacts
 pub mod PairFacts
 pub mod WalkFacts
 pub mod MeaningFacts
+pub mod JudgingFacts

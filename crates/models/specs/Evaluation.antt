@@ -38,3 +38,7 @@ RowsHold I cs rows n = (c e : ℕ) → c < n → e < 256 → T (contains rows c 
 pub record Evaluated (I : Interpretation) (cs : List Concept) (old new : List ℕ) : Type 0 where
   pub rows-hold : RowsHold I cs new (length cs)
   pub rest-stays : (i : ℕ) → 4 * length cs ≤ i → getD new i 0 ≡ getD old i 0
+
+-- row c has all n elements
+abbrev pub RowIsFull : List ℕ → ℕ → ℕ → Type 0
+RowIsFull rows n c = (e : ℕ) → e < n → T (contains rows c e)

@@ -4,3 +4,4 @@ pub mod Models
 pub mod Searching
 pub mod Pairs
 pub mod Evaluation
+pub mod Judging
