@@ -1,15 +1,15 @@
 -- Listed edges, their order, and where an edge would stand.
-use mathlib.Core.Bool.{Bool, true, false, cond}
+use mathlib.Core.Bool.{true, false}
 use mathlib.Core.List.{List}
 use mathlib.Core.Logic.{inl, inr, ⊎-elim, _≢_}
-use mathlib.Core.Path.{_≡_, refl, sym, subst, ap, _∙_}
-use Prim.Native.Nat.{ℕ, zero, suc, _+_, _-_, _*_, _/_, _%_, _<_, _≤_}
+use mathlib.Core.Path.{_≡_, sym, subst, ap, _∙_}
+use Prim.Native.Nat.{ℕ, zero, suc, _+_, _-_, _*_, _<_, _≤_}
 use native.Mathlib.Omega.{arith}
-use lib.Dec.{T, eqb, eqb→eq}
+use lib.Dec.{T, eqb→eq}
 use denote.Ref.{now}
 use Rattle.std.proofs.shelf.Tests.{cases-eq, cases-lt}
 use Rattle.models.specs.declared.Model.{Model}
-use Rattle.models.specs.Items.{edges-in, edge-role, edge-from, edge-to, edge-source, edge-target, TripleBefore, joined, rank, edge-rank}
+use Rattle.models.specs.Items.{edges-in, edge-role, edge-from, edge-to, TripleBefore, joined, rank, edge-rank}
 use Rattle.models.specs.Models.{WellFormed}
 use Rattle.models.specs.Searching.{Stands}
 use Rattle.models.proofs.Tests.{and-out, and-in, eq-T, same-test}
@@ -57,8 +57,8 @@ module _ (m : Model) (formed : WellFormed m) where
       let g = formed .good-edges i (omega arith) in
       let e : suc i - 1 ≡ i = omega arith in
       rank-order _ _ _ _ _ _ (small _ (g .from-in-range)) (small _ (g .to-in-range))
-        (subst (λ k. TripleBefore (edge-role es k) (edge-from es k) (edge-to es k) (edge-role es (suc i)) (edge-from es (suc i)) (edge-to es (suc i))) e
-          (formed .good-edges (suc i) h .edge-rises (omega arith)))
+      (subst (λ k. TripleBefore (edge-role es k) (edge-from es k) (edge-to es k) (edge-role es (suc i)) (edge-from es (suc i)) (edge-to es (suc i))) e
+      (formed .good-edges (suc i) h .edge-rises (omega arith)))
 
   pub ranks-rise : (i j : ℕ) → i ≤ j → j < edges-in es → edge-rank es i ≤ edge-rank es j
   ranks-rise i zero h k = let e : i ≡ 0 = omega arith in subst (λ x. edge-rank es x ≤ edge-rank es 0) (sym e) (omega arith)
@@ -91,7 +91,7 @@ module _ (m : Model) (formed : WellFormed m) where
       absent t =
           let (j, e) = joined-out es r x y t in
           let is : edge-rank es j ≡ rank r x y =
-              ap (λ z. rank z (edge-from es j) (edge-to es j)) (e .role-is) ∙ ap (λ z. rank r z (edge-to es j)) (e .from-is) ∙ ap (λ z. rank r x z) (e .to-is) in
+          ap (λ z. rank z (edge-from es j) (edge-to es j)) (e .role-is) ∙ ap (λ z. rank r z (edge-to es j)) (e .from-is) ∙ ap (λ z. rank r x z) (e .to-is) in
           let l : i ≤ j = ⊎-elim (λ (h : j < i). absurd (less _ _ (s .before j h) is)) (λ (h : i ≤ j). h) (cases-lt j i) in
           let k = e .listed in
           n (omega arith) (between _ _ _ (s .after i (omega arith) (omega arith)) (ranks-rise i j l k) is)

@@ -5,7 +5,7 @@ use mathlib.Core.Logic.{inl, inr, ⊎-elim, _↔_}
 use mathlib.Core.Path.{_≡_, refl, sym, subst}
 use Prim.Native.Nat.{ℕ, _+_, _/_, _<_}
 use native.Mathlib.Omega.{arith}
-use lib.Dec.{T, eqb, ltb, eqb→eq, ltb→lt, lt→ltb, T-not, not-T}
+use lib.Dec.{T, ltb, eqb→eq, ltb→lt, lt→ltb, T-not, not-T}
 use lib.ListN.{length, getD}
 use denote.Ref.{now}
 use Rattle.std.proofs.shelf.Tests.{cases-eq}
@@ -122,10 +122,10 @@ module _ (m : Model) (formed : WellFormed m) where
   )
   computed-means rows c o (Only r b) p e l = (
     (λ t.
-      let q = turned-out (ltb e (m .size)) (reaches es r (λ y. not (contains rows b y)) e) (λ u. lt→ltb e (m .size) (reached-in-range r (λ y. not (contains rows b y)) e u)) t in
-      (element e (ltb→lt e (m .size) (q .0)), λ y hy g. ⊎-elim (λ z. z) (λ z. absurd (T-not _ (q .1) (leads-reaches r (λ y. not (contains rows b y)) e y g z))) (either-way (contains rows b y)))),
+        let q = turned-out (ltb e (m .size)) (reaches es r (λ y. not (contains rows b y)) e) (λ u. lt→ltb e (m .size) (reached-in-range r (λ y. not (contains rows b y)) e u)) t in
+        (element e (ltb→lt e (m .size) (q .0)), λ y hy g. ⊎-elim (λ z. z) (λ z. absurd (T-not _ (q .1) (leads-reaches r (λ y. not (contains rows b y)) e y g z))) (either-way (contains rows b y)))),
     λ t. turned-in (ltb e (m .size)) (reaches es r (λ y. not (contains rows b y)) e) (lt→ltb e (m .size) (in-range e (t .0)))
-      (not-T _ (λ u. let (y, hy, g, z) = reaches-leads r (λ y. not (contains rows b y)) e u in T-not (contains rows b y) z (t .1 y hy g))),
+        (not-T _ (λ u. let (y, hy, g, z) = reaches-leads r (λ y. not (contains rows b y)) e u in T-not (contains rows b y) z (t .1 y hy g))),
   )
   computed-means rows c o (Exists r b) p e l = (
     (λ t. (element e (reached-in-range r (λ y. contains rows b y) e t), reaches-leads r (λ y. contains rows b y) e t)),
@@ -141,17 +141,19 @@ module _ (m : Model) (formed : WellFormed m) where
       (λ (d : a ≡ c → ⊥). subst (λ b. T b ↔ (Element I e × LiesIn I cs a e)) (sym (other-row old new c _ becomes a e d le)) (hold a e (omega arith) le))
       (cases-eq a c)
     where
-      k : Concept
-      k = getD cs c Top
-
       small : (x : ℕ) → Element I x → x < 256
       small x h = let f = formed .sized .few-elements in let s = formed .sized .inhabited in omega arith
 
       here : T (contains new c e) ↔ (Element I e × LiesIn I cs c e)
       here =
-          let s = computed-means old c (λ a x ha lx t. in-range x (hold a x ha lx .0 t .0)) (getD cs c Top) (o c Top lc) e le in
-          (λ t. let q = s .0 (subst T (becomes .elements e le) t) in
-            (q .0, means-at I cs c e (getD cs c Top) (lc, refl)
-              (means-map I (λ a x. T (contains old a x)) (LiesIn I cs) c (λ a x ha hx t. hold a x ha (small x hx) .0 t .1) (getD cs c Top) (o c Top lc) e (q .0) (q .1))),
-           λ t. subst T (sym (becomes .elements e le)) (s .1 (t .0,
-            means-map I (LiesIn I cs) (λ a x. T (contains old a x)) c (λ a x ha hx t. hold a x ha (small x hx) .1 (hx, t)) (getD cs c Top) (o c Top lc) e (t .0) (out I cs c e (t .1)))))
+          let s = computed-means old c (λ a x ha lx t. in-range x (hold a x ha lx .0 t .0)) (getD cs c Top) (o c Top lc) e le in (
+            λ t. let q = s .0 (subst T (becomes .elements e le) t) in (
+              q .0,
+              means-at I cs c e (getD cs c Top) (lc, refl)
+                  (means-map I (λ a x. T (contains old a x)) (LiesIn I cs) c (λ a x ha hx t. hold a x ha (small x hx) .0 t .1) (getD cs c Top) (o c Top lc) e (q .0) (q .1)),
+            ),
+            λ t. subst T (sym (becomes .elements e le)) (s .1 (
+              t .0,
+              means-map I (LiesIn I cs) (λ a x. T (contains old a x)) c (λ a x ha hx t. hold a x ha (small x hx) .1 (hx, t)) (getD cs c Top) (o c Top lc) e (t .0) (out I cs c e (t .1)),
+            )),
+          )

@@ -3,7 +3,7 @@ use mathlib.Core.Bool.{Bool, true, false, cond}
 use mathlib.Core.List.{List}
 use mathlib.Core.Logic.{_↔_}
 use mathlib.Core.Path.{_≡_, refl, sym, subst, _∙_}
-use Prim.Native.Nat.{ℕ, _-_, _/_, _%_, _<_, _≤_}
+use Prim.Native.Nat.{ℕ, _/_, _%_, _<_}
 use native.Mathlib.Omega.{arith}
 use lib.Dec.{T, eqb}
 use denote.Ref.{now}
@@ -12,7 +12,7 @@ use Rattle.models.specs.declared.Model.{Model}
 use Rattle.models.specs.Items.{edges-in, edge-role, edge-from, edge-to, edge-source, edge-target, joined}
 use Rattle.models.specs.Models.{WellFormed, described}
 use Rattle.models.specs.Pairs.{PairIncluded, Shortened}
-use Rattle.models.proofs.EdgeFacts.{IsEdge, joined-out, joined-in}
+use Rattle.models.proofs.EdgeFacts.{joined-out, joined-in}
 
 -- edge i is a pair of role r that leads from x to y
 pub record IsPair (es : List ℕ) (i r x y : ℕ) : Type 0 where
@@ -71,8 +71,8 @@ module _ (m : Model) where
     pub pairs-included : (r s : ℕ) → ((k : ℕ) → k < edges-in es → PairIncluded m r s k) ↔ Includes (described m) r s
     pairs-included r s = (
       (λ f x y hx hy t.
-        let (i, p) = leads-out r x y t in
-        subst (λ b. Leads (described m) s x b) (p .target-is) (subst (λ a. Leads (described m) s a (edge-target es r i)) (p .source-is) (f i (p .listed) (p .role-is)))),
+          let (i, p) = leads-out r x y t in
+          subst (λ b. Leads (described m) s x b) (p .target-is) (subst (λ a. Leads (described m) s a (edge-target es r i)) (p .source-is) (f i (p .listed) (p .role-is)))),
       λ f i k e. f _ _ (element _ (source-in-range r i k)) (element _ (target-in-range r i k)) (leads-in r i k e),
     )
 
@@ -95,12 +95,9 @@ module _ (m : Model) where
         let hz = subst (λ a. a < m .size) (q .to-is) (formed .good-edges j (q .listed) .to-in-range) in
         go hx hy hz (eqb (r % 2) 0) f
       where
-        Step : Bool → ℕ → ℕ → Type 0
-        Step b a c = T (cond b (joined es (r / 2) a c) (joined es (r / 2) c a))
-
         go : x < m .size → y < m .size → z < m .size → (b : Bool) →
             ((x y z : ℕ) → Element (described m) x → Element (described m) y → Element (described m) z →
-              T (cond b (joined es (r / 2) x y) (joined es (r / 2) y x)) → T (cond b (joined es (r / 2) y z) (joined es (r / 2) z y)) → T (cond b (joined es (r / 2) x z) (joined es (r / 2) z x))) →
+            T (cond b (joined es (r / 2) x y) (joined es (r / 2) y x)) → T (cond b (joined es (r / 2) y z) (joined es (r / 2) z y)) → T (cond b (joined es (r / 2) x z) (joined es (r / 2) z x))) →
             T (joined es (r / 2) x z)
         go hx hy hz true g = g x y z (element x hx) (element y hy) (element z hz) u v
         go hx hy hz false g = g z y x (element z hz) (element y hy) (element x hx) v u
@@ -119,5 +116,5 @@ module _ (m : Model) where
         shortened : Chained r → (k : ℕ) → k < edges-in es → Shortened m (r / 2) k
         shortened f i k e j l same next =
             subst (λ a. T (joined es a (edge-from es i) (edge-to es j))) (sym e) (f (edge-from es i) (edge-to es i) (edge-to es j)
-              (joined-in es i (r / 2) _ _ (record { listed = k; role-is = e; from-is = refl; to-is = refl }))
-              (joined-in es j (r / 2) _ _ (record { listed = l; role-is = same ∙ e; from-is = next; to-is = refl })))
+            (joined-in es i (r / 2) _ _ (record { listed = k; role-is = e; from-is = refl; to-is = refl }))
+            (joined-in es j (r / 2) _ _ (record { listed = l; role-is = same ∙ e; from-is = next; to-is = refl })))

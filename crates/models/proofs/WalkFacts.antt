@@ -25,17 +25,17 @@ walk-none z old c p s h = record { elements = λ e l. h .elements e l ∙ sym (a
 pub walk-insert : (old new newer : List ℕ) (c : ℕ) (p : ℕ → Bool) (s : ℕ → ℕ) (i x : ℕ) → RowBecomes old new c (λ e. walked p s i e) → p i ≡ true → x ≡ s i →
     RowBecomes new newer c (λ e. eqb x e || contains new c e) → RowBecomes old newer c (λ e. walked p s (i + 1) e)
 walk-insert old new newer c p s i x h y q n = record {
-    elements = λ e l.
+  elements = λ e l.
       n .elements e l ∙ ap₂ _||_ (ap (λ z. eqb z e) q) (h .elements e l) ∙ or-comm (eqb (s i) e) (walked p s i e)
       ∙ sym (any-more i (λ k. p k && eqb (s k) e) ∙ ap (λ b. walked p s i e || (b && eqb (s i) e)) y);
-    others = λ j m. n .others j m ∙ h .others j m;
-  }
+  others = λ j m. n .others j m ∙ h .others j m;
+}
 
 pub walk-skip : (old new : List ℕ) (c : ℕ) (p : ℕ → Bool) (s : ℕ → ℕ) (i : ℕ) → RowBecomes old new c (λ e. walked p s i e) → p i ≡ false → RowBecomes old new c (λ e. walked p s (i + 1) e)
 walk-skip old new c p s i h y = record {
-    elements = λ e l. h .elements e l ∙ sym (any-more i (λ k. p k && eqb (s k) e) ∙ ap (λ b. walked p s i e || (b && eqb (s i) e)) y ∙ or-false (walked p s i e));
-    others = h .others;
-  }
+  elements = λ e l. h .elements e l ∙ sym (any-more i (λ k. p k && eqb (s k) e) ∙ ap (λ b. walked p s i e || (b && eqb (s i) e)) y ∙ or-false (walked p s i e));
+  others = h .others;
+}
 
 pub walk-all : (z old new : List ℕ) (c : ℕ) (p : ℕ → Bool) (s : ℕ → ℕ) (i n : ℕ) → RowBecomes z old c (λ _. false) → RowBecomes old new c (λ e. walked p s i e) → i ≡ n → RowBecomes z new c (λ e. walked p s n e)
 walk-all z old new c p s i n h k q = row-as z new c _ _ (row-then z old new c _ _ h k) (λ e l. ap (λ j. walked p s j e) q)

@@ -20,29 +20,25 @@ pub record Sized (m : Model) : Type 0 where
   pub whole-edges : length (now (m .edges)) % 6 ≡ 0
   pub few-edges : edges-in (now (m .edges)) ≤ 4096
 
-abbrev pub MarkFits : Model → ℕ → Type 0
-MarkFits m i = GoodMark (now (m .marks)) (m .size) i
+-- the first mark and the first edge that isn't good, if any
+abbrev pub FirstBadMark : Model → Option ℕ → Type 0
+FirstBadMark m bad = First (GoodMark (now (m .marks)) (m .size)) (marks-in (now (m .marks))) bad
 
-abbrev pub EdgeFits : Model → ℕ → Type 0
-EdgeFits m i = GoodEdge (now (m .edges)) (m .size) i
-
-abbrev pub MarksFit : Model → Option ℕ → Type 0
-MarksFit m bad = First (MarkFits m) (marks-in (now (m .marks))) bad
-
-abbrev pub EdgesFit : Model → Option ℕ → Type 0
-EdgesFit m bad = First (EdgeFits m) (edges-in (now (m .edges))) bad
+abbrev pub FirstBadEdge : Model → Option ℕ → Type 0
+FirstBadEdge m bad = First (GoodEdge (now (m .edges)) (m .size)) (edges-in (now (m .edges))) bad
 
 pub record WellFormed (m : Model) : Type 0 where
   pub sized : Sized m
-  pub good-marks : MarksFit m None
-  pub good-edges : EdgesFit m None
+  pub good-marks : FirstBadMark m None
+  pub good-edges : FirstBadEdge m None
 
 -- where a model is wrong first: 0 for its numbers, counts and lengths, from 1 up for its marks and then its edges
 pub data FirstFlaw (m : Model) : ℕ → Type 0 where
   not-sized : (Sized m → ⊥) → FirstFlaw m 0
-  bad-mark : {i : ℕ} → Sized m → MarksFit m (Some i) → FirstFlaw m (1 + i)
-  bad-edge : {i : ℕ} → Sized m → MarksFit m None → EdgesFit m (Some i) → FirstFlaw m (1 + m .«mark_count» + i)
+  bad-mark : {i : ℕ} → Sized m → FirstBadMark m (Some i) → FirstFlaw m (1 + i)
+  bad-edge : {i : ℕ} → Sized m → FirstBadMark m None → FirstBadEdge m (Some i) → FirstFlaw m (1 + m .«mark_count» + i)
 
+-- the first flaw, if any
 abbrev pub Flaw : Model → Option ℕ → Type 0
 Flaw m None = WellFormed m
 Flaw m (Some k) = FirstFlaw m k

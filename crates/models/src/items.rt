@@ -65,7 +65,11 @@ pub(crate) fn edge_source(edges: &[u8], role: u16, i: usize) -> u16
     requires { ⌜ i < edges-in (now edges) ⌝ }
     ensures { λ r. ⌜ r ≡ edge-source (now (edges .entry)) role i ⌝ }
 {
-    if role % 2 == 0 { edge_from(edges, i) } else { edge_to(edges, i) }
+    if role % 2 == 0 {
+        edge_from(edges, i)
+    } else {
+        edge_to(edges, i)
+    }
 }
 
 // The end of an edge that a role of its name leads to.
@@ -73,7 +77,11 @@ pub(crate) fn edge_target(edges: &[u8], role: u16, i: usize) -> u16
     requires { ⌜ i < edges-in (now edges) ⌝ }
     ensures { λ r. ⌜ r ≡ edge-target (now (edges .entry)) role i ⌝ }
 {
-    if role % 2 == 0 { edge_to(edges, i) } else { edge_from(edges, i) }
+    if role % 2 == 0 {
+        edge_to(edges, i)
+    } else {
+        edge_from(edges, i)
+    }
 }
 
 // An edge as one number, by which edges are ordered.

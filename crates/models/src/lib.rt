@@ -28,8 +28,20 @@ pub struct Model<'f> {
 
 // Whether a model meets the vocabulary's axioms, with its point in every concept of a label, which is a row of bits. The
 // rows are working memory: four words for each concept, in which the elements of the concept are left.
-pub fn judge(vocabulary: &Vocabulary, label: &[u64; 16], model: &Model, rows: &mut [u64]) -> Result<(), Refusal>
+pub fn judge(
+    vocabulary: &Vocabulary,
+    label: &[u64; 16],
+    model: &Model,
+    rows: &mut [u64],
+) -> Result<(), Refusal>
     ensures judged { λ r. ⌜ (Kept (now (vocabulary .entry)) → 4 * length (concepts (now (vocabulary .entry))) ≤ length (now (rows .entry)) → LabelStands (concepts (now (vocabulary .entry))) (now (label .entry)) → Judged (now (vocabulary .entry)) (now (label .entry)) (now (model .entry)) (now (rows .entry)) r (now (rows .exit))) ⌝ }
 {
-    judge_by(vocabulary.role_axioms(), vocabulary.concepts(), vocabulary.axioms(), label, model, rows)
+    judge_by(
+        vocabulary.role_axioms(),
+        vocabulary.concepts(),
+        vocabulary.axioms(),
+        label,
+        model,
+        rows,
+    )
 }

@@ -40,7 +40,8 @@ fn is_pair_included(model: &Model, r: u16, s: u16, i: usize) -> bool
     ensures { λ b. ⌜ (T b ↔ PairIncluded (now (model .entry)) r s i) ⌝ }
 {
     let edges = model.edges;
-    edge_role(edges, i) != r / 2 || leads(model, s, edge_source(edges, r, i), edge_target(edges, r, i))
+    edge_role(edges, i) != r / 2
+        || leads(model, s, edge_source(edges, r, i), edge_target(edges, r, i))
 }
 
 // Whether every pair of role `r` is a pair of role `s`.

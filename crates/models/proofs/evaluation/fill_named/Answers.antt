@@ -18,6 +18,6 @@ loop-i-again c =
     let p : ℕ → Bool = λ k. eqb (mark-name ms k) (c .args .name) in
     let s : ℕ → ℕ = λ k. mark-element ms k in
     elim (c .if-mark-name-name .came) [
-      then-mark-name-name w ↦ rw (w .rows-is) (walk-insert _ _ _ _ p s _ _ (c .loop-i .inv) (eq-eqb _ _ (omega arith)) (omega arith) (w .insert .ensures))
-    | else-mark-name-name w ↦ rw (w .rows-is) (walk-skip _ _ _ p s _ (c .loop-i .inv) (ne-eqb _ _ (omega arith)))
+      | then-mark-name-name w ↦ rw (w .rows-is) (walk-insert _ _ _ _ p s _ _ (c .loop-i .inv) (eq-eqb _ _ (omega arith)) (omega arith) (w .insert .ensures))
+      | else-mark-name-name w ↦ rw (w .rows-is) (walk-skip _ _ _ p s _ (c .loop-i .inv) (ne-eqb _ _ (omega arith)))
     ]

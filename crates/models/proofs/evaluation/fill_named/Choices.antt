@@ -1,4 +1,3 @@
-use denote.Ref.{now}
 use lib.Dec.{eqb}
 use Rattle.rows.specs.Rows.{RowBecomes}
 use Rattle.models.specs.Items.{mark-element, mark-name}

@@ -18,9 +18,9 @@ returns-then-at-edges-in c =
     let e : c .rank-want .result ≡ w = c .rank-want .ensures in
     let s : Stands l w i = subst (λ x. Stands l x i) e (c .edges-before-at .ensures) in
     ⊎-elim
-      (λ (q : edge-rank l i ≡ w). eq-eqb _ _ (c .edge-rank .ensures ∙ q ∙ sym e) ∙ sym (joined-here m (c .pre) _ _ _ i (omega arith) (omega arith) (omega arith) q))
-      (λ (d : edge-rank l i ≡ w → ⊥). ne-eqb _ _ (λ z. d (sym (c .edge-rank .ensures) ∙ z ∙ e)) ∙ sym (joined-nowhere m (c .pre) _ _ _ i s (λ _. d)))
-      (cases-eq (edge-rank l i) w)
+    (λ (q : edge-rank l i ≡ w). eq-eqb _ _ (c .edge-rank .ensures ∙ q ∙ sym e) ∙ sym (joined-here m (c .pre) _ _ _ i (omega arith) (omega arith) (omega arith) q))
+    (λ (d : edge-rank l i ≡ w → ⊥). ne-eqb _ _ (λ z. d (sym (c .edge-rank .ensures) ∙ z ∙ e)) ∙ sym (joined-nowhere m (c .pre) _ _ _ i s (λ _. d)))
+    (cases-eq (edge-rank l i) w)
 
 pub returns-else-at-edges-in : need.returns-else-at-edges-in
 returns-else-at-edges-in c =

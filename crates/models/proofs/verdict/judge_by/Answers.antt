@@ -1,4 +1,3 @@
-use native.Mathlib.Omega.{arith}
 use Rattle.std.specs.declared.option.Option.the-variants.{Some, None}
 use Rattle.models.specs.Models.{described}
 use Rattle.models.proofs.JudgingFacts.{role-axioms-met, axioms-first, axioms-met, point-first, failed-member}
