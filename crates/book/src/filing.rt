@@ -81,7 +81,7 @@ fn outside_conclusion<B: Bank>(
 }
 
 // The label of a line; the empty one if there is no such line.
-fn label_of(lines: &[Line], k: u16) -> [u64; 16]
+pub fn label_of(lines: &[Line], k: u16) -> [u64; 16]
     ensures { λ r. ⌜ r ≡ label-of (now (lines .entry)) k ⌝ }
 {
     let k = k as usize;

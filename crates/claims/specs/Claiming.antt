@@ -29,7 +29,13 @@ Added x y label None = (256 ≤ x .count) × (y ≡ x)
 -- x becomes y as claim k is settled
 abbrev pub Settled : Claims → Claims → ℕ → Status → Bool → Type 0
 Settled x y k s true = (k < length (filed x)) × (filed y ≡ set (filed x) k (record { label = claim-at x k .label; status = s })) × (y .count ≡ x .count)
-Settled x y k s false = (k < length (filed x) → k < 256 → ⊥) × (y ≡ x)
+Settled x y k s false = (length (filed x) ≤ k) × (y ≡ x)
+
+-- whether a claim is neither empty nor inhabited yet
+abbrev pub is-unsettled : Status → Bool
+is-unsettled Open = true
+is-unsettled Empty = false
+is-unsettled Inhabited = false
 
 abbrev pub same-status : Status → Status → ℕ
 same-status Open Open = 1

@@ -1,9 +1,10 @@
 ghost use mathlib.Core.List.{[]};
 ghost use mathlib.Core.Path.{_≡_};
 ghost use Prim.Native.Nat.{_≤_};
+ghost use lib.Dec.{leb};
 ghost use lib.ListN.{length};
 ghost use Rattle.claims.specs.declared.Status.the-variants.{Open, Empty, Inhabited};
-ghost use Rattle.claims.specs.Claiming.{filed, claim-at, tallied, same-status, Added, Settled};
+ghost use Rattle.claims.specs.Claiming.{filed, claim-at, is-unsettled, tallied, same-status, Added, Settled};
 
 // What has become of a claim.
 #[derive(Clone, Copy)]
@@ -45,10 +46,22 @@ fn one_if_same(a: Status, b: Status) -> usize
     }
 }
 
+impl Claim {
+    // Whether it is neither empty nor inhabited yet.
+    pub fn is_open(&self) -> bool
+        ensures { λ r. ⌜ r ≡ is-unsettled (now (self .entry) .status) ⌝ }
+    {
+        match self.status {
+            Status::Open => true,
+            Status::Empty | Status::Inhabited => false,
+        }
+    }
+}
+
 impl Claims {
     // No claim.
     pub fn new() -> Claims
-        ensures { λ r. ⌜ filed r ≡ [] ⌝ }
+        ensures { λ r. ⌜ (filed r ≡ []) × (r .count ≡ 0) ⌝ }
     {
         Claims {
             list: [Claim {
@@ -61,7 +74,8 @@ impl Claims {
 
     // The claims, by number.
     pub fn list(&self) -> &[Claim]
-        ensures { λ r. ⌜ now r ≡ filed (now (self .entry)) ⌝ }
+        ensures is { λ r. ⌜ now r ≡ filed (now (self .entry)) ⌝ }
+        ensures few { λ r. ⌜ length (now r) ≤ 256 ⌝ }
     {
         let whole = &self.list[..];
         if self.count < whole.len() {
@@ -94,6 +108,13 @@ impl Claims {
         }
     }
 
+    // Whether no claim more can be filed.
+    pub fn is_full(&self) -> bool
+        ensures { λ r. ⌜ r ≡ leb 256 (now (self .entry) .count) ⌝ }
+    {
+        self.count >= MOST
+    }
+
     // Files an open claim with this label; None if the list is full.
     pub fn add(&mut self, label: [u64; 16]) -> Option<usize>
         ensures { λ r. ⌜ Added (now (self .entry)) (now (self .exit)) label r ⌝ }
@@ -116,7 +137,7 @@ impl Claims {
     {
         let at = number as usize;
         let label = self.claim(number).label;
-        if at >= self.len() || at >= MOST {
+        if at >= self.list().len() {
             return false;
         }
         self.list[at] = Claim { label, status };

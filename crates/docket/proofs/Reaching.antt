@@ -20,7 +20,7 @@ use Rattle.vocabulary.proofs.Keeping.{kept-new, kept-role-axiom, kept-concept, 
 use Rattle.docket.specs.declared.Docket.{Docket}
 use Rattle.docket.specs.Fields.{use-of-first, out-of-range, Written}
 use Rattle.docket.specs.Dockets.{Fresh, count}
-use Rattle.docket.specs.Calls.{Call, inclusion, transitivity, concept, pair, general, seal, line, all-rows, Acts}
+use Rattle.docket.specs.Calls.{Call, inclusion, transitivity, concept, pair, general, seal, line, claim, close-empty, close-inhabited, all-rows, Acts}
 use Rattle.docket.specs.Runs.{Reached, began, called}
 
 -- what is written within its range is in range
@@ -47,6 +47,9 @@ acts-kept (general c) d e (Ok i) h t =
     kept-axiom (d .vocabulary) (e .vocabulary) c i (h .1 .0) (leb-false (count d) c (when-none (leb (count d) c) _ (r .1 .0))) t
 acts-kept seal d e (Ok i) h t = subst Kept (sym (h .1 .0)) t
 acts-kept (line k f) d e (Ok i) h t = subst Kept (sym (h .1 .1)) t
+acts-kept (claim ms) d e (Ok i) h t = subst Kept (sym (h .1 .1)) t
+acts-kept (close-empty c n) d e (Ok i) h t = subst Kept (sym (h .1 .2)) t
+acts-kept (close-inhabited c m old new) d e (Ok i) h t = subst Kept (sym (h .1 .2)) t
 
 pub reached-kept : (d : Docket) → Reached d → Kept (d .vocabulary)
 reached-kept d (began f) = kept-new (d .vocabulary) (f .nothing-said) (f .concept-room .1)

@@ -16,6 +16,7 @@ use Rattle.refusals.specs.Checks.{when, first}
 use Rattle.register.specs.Registers.{entries, room}
 use Rattle.logic.specs.declared.concept.Concept.{Concept}
 use Rattle.book.specs.declared.line.Line.{Line}
+use Rattle.claims.specs.Claiming.{filed}
 use Rattle.vocabulary.specs.Vocabularies.{concepts, New}
 use Rattle.docket.specs.declared.Docket.{Docket}
 use Rattle.docket.specs.declared.Unopened.{Unopened}
@@ -36,6 +37,8 @@ pub record Fresh (d : Docket) : Type 0 where
   pub unsealed : d .phase ≡ Open
   pub nothing-said : New (d .vocabulary)
   pub no-line : lines d ≡ []
+  pub no-claim : filed (d .claims) ≡ []
+  pub none-counted : d .claims .count ≡ 0
   pub concept-room : (1 ≤ room (d .vocabulary .concepts)) × (room (d .vocabulary .concepts) ≤ 1024)
   pub line-room : (1 ≤ room (d .book)) × (room (d .book) ≤ 4096)
 
@@ -54,7 +57,7 @@ Opened n m cs ls (Err u) = (first (opening-rows n m (length (now cs)) (length (n
 
 -- d behind a call that its phase admits
 abbrev pub entered : Docket → Kind → Docket
-entered d k = record { phase = after (d .phase) k; vocabulary = d .vocabulary; book = d .book }
+entered d k = record { phase = after (d .phase) k; vocabulary = d .vocabulary; book = d .book; claims = d .claims }
 
 abbrev pub Entered : Docket → Kind → Result (Unit {0}) Refusal → Docket → Type 0
 Entered d k (Ok u) e = (admits (d .phase) k ≡ true) × (e ≡ entered d k)

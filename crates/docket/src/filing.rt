@@ -20,7 +20,7 @@ const MOST_AXIOMS: usize = 256;
 
 impl<'a> Docket<'a> {
     // Whether a call of this kind is taken in this phase. A seal that is taken seals the docket.
-    fn enter(&mut self, kind: Kind) -> Result<(), Refusal>
+    pub(crate) fn enter(&mut self, kind: Kind) -> Result<(), Refusal>
         ensures { λ r. ⌜ Entered (now (self .entry)) kind r (now (self .exit)) ⌝ }
     {
         match (self.phase, kind) {
@@ -30,9 +30,9 @@ impl<'a> Docket<'a> {
                 self.phase = Phase::Sealed;
                 Ok(())
             }
-            (Phase::Sealed, Kind::Line) => Ok(()),
+            (Phase::Sealed, Kind::Line | Kind::Claim | Kind::Closing) => Ok(()),
             (Phase::Sealed, Kind::RoleAxiom | Kind::Axiom | Kind::Seal)
-            | (Phase::Open, Kind::Line) => Err(Refusal::Phase),
+            | (Phase::Open, Kind::Line | Kind::Claim | Kind::Closing) => Err(Refusal::Phase),
         }
     }
 

@@ -1,3 +1,4 @@
+pub mod claiming;
 pub mod conclusion;
 pub mod fields;
 pub mod filing;
@@ -9,6 +10,7 @@ ghost use Rattle.docket.specs.Dockets.{Opened};
 use crate::phase::Phase;
 use book::line::Line;
 use book::line::LineEntry;
+use claims::Claims;
 use logic::concept::Concept;
 use refusals::Refusal;
 use register::store::Register;
@@ -22,12 +24,13 @@ pub const MOST_LINES: usize = 4096;
 // What a call answers: the new entry's number (0 where there is none), or a refusal.
 pub type Answer = Result<usize, Refusal>;
 
-// A docket: the vocabulary and the lines that stand, in memory that the host supplied.
+// A docket: the vocabulary, the lines and the claims that stand, over memory that the host supplied.
 #[derive(Drop)]
 pub struct Docket<'a> {
     phase: Phase,
     vocabulary: Vocabulary<'a>,
     book: Register<'a, Line>,
+    claims: Claims,
 }
 
 // An opening that was refused, with the host's memory as it was.
@@ -72,7 +75,7 @@ impl<'a> Docket<'a> {
         Ok(Docket {
             phase: Phase::Open,
             vocabulary: Vocabulary::over(concepts, concept_capacity),
-            book: Register::over(lines, line_capacity),
+            book: Register::over(lines, line_capacity), claims: Claims::new()
         })
     }
 }

@@ -14,4 +14,6 @@ pub enum Kind {
     Axiom,
     Seal,
     Line,
+    Claim,
+    Closing,
 }
