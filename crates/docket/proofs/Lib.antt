@@ -1,3 +1,4 @@
 pub mod Reaching
 pub mod Answering
 pub mod Pushing
+pub mod Closing

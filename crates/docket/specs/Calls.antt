@@ -91,17 +91,17 @@ rows seal d = []
 rows (line k f) d = draft-rows k (d .vocabulary) (lines d) (room (d .book)) f
 rows (claim ms) d =
     with (λ i. Absent (i + 0)) (absent-at (count d) ms)
-  ∷ when (leb 256 (d .claims .count)) (Full 256)
-  ∷ with (λ i. Order (i + 0)) (falling-at ms) ∷ []
+    ∷ when (leb 256 (d .claims .count)) (Full 256)
+    ∷ with (λ i. Order (i + 0)) (falling-at ms) ∷ []
 rows (close-empty c n) d =
     when (leb (length (filed (d .claims))) c) (Absent 0)
-  ∷ when (leb (length (lines d)) n) (Absent 1)
-  ∷ when (not (is-unsettled (claim-at (d .claims) c .status))) (Closed c)
-  ∷ with Outside (outside (label-of (lines d) n) (claim-at (d .claims) c .label)) ∷ []
+    ∷ when (leb (length (lines d)) n) (Absent 1)
+    ∷ when (not (is-unsettled (claim-at (d .claims) c .status))) (Closed c)
+    ∷ with Outside (outside (label-of (lines d) n) (claim-at (d .claims) c .label)) ∷ []
 rows (close-inhabited c m old new) d =
     when (ltb (length old / 4) (count d)) (Range (4 + (length (now (m .marks)) + length (now (m .edges))) / 2))
-  ∷ when (leb (length (filed (d .claims))) c) (Absent 0)
-  ∷ when (not (is-unsettled (claim-at (d .claims) c .status))) (Closed c) ∷ []
+    ∷ when (leb (length (filed (d .claims))) c) (Absent 0)
+    ∷ when (not (is-unsettled (claim-at (d .claims) c .status))) (Closed c) ∷ []
 
 -- all that speaks against a call: the phase comes first
 abbrev pub all-rows : Call → Docket → List (Option Refusal)

@@ -3,7 +3,6 @@ ghost use Rattle.bytes.specs.Bytes.{numbers};
 ghost use Rattle.claims.specs.Claiming.{filed, tallied};
 ghost use Rattle.claims.specs.declared.Status.the-variants.{Open, Empty, Inhabited};
 ghost use Rattle.docket.specs.Calls.{Acts, claim, close-empty, close-inhabited};
-
 use crate::Answer;
 use crate::Docket;
 use crate::phase::Kind;
@@ -56,7 +55,11 @@ impl<'a> Docket<'a> {
         if let Some(c) = first_outside(&label_of(self.book.entries(), line), &claimed.label) {
             return Err(Refusal::Outside(c));
         }
-        if self.claims.settle(claim, Status::Empty) { Ok(0) } else { Err(Refusal::Absent(0)) }
+        if self.claims.settle(claim, Status::Empty) {
+            Ok(0)
+        } else {
+            Err(Refusal::Absent(0))
+        }
     }
 
     // Closes a claim as inhabited by a model that meets the axioms and whose point lies in all of its label. The rows are
@@ -76,7 +79,11 @@ impl<'a> Docket<'a> {
             return Err(Refusal::Closed(claim));
         }
         judge(&self.vocabulary, &claimed.label, model, rows)?;
-        if self.claims.settle(claim, Status::Inhabited) { Ok(0) } else { Err(Refusal::Absent(0)) }
+        if self.claims.settle(claim, Status::Inhabited) {
+            Ok(0)
+        } else {
+            Err(Refusal::Absent(0))
+        }
     }
 
     // The open, the empty and the inhabited claims.

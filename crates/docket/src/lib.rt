@@ -75,7 +75,8 @@ impl<'a> Docket<'a> {
         Ok(Docket {
             phase: Phase::Open,
             vocabulary: Vocabulary::over(concepts, concept_capacity),
-            book: Register::over(lines, line_capacity), claims: Claims::new()
+            book: Register::over(lines, line_capacity),
+            claims: Claims::new(),
         })
     }
 }
