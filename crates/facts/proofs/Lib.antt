@@ -1,0 +1,4 @@
+pub mod Licences
+pub mod Growing
+pub mod Members
+pub mod Emptiness
