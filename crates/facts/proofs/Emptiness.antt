@@ -1,12 +1,11 @@
 -- Every call keeps the labels of the standing lines empty.
-use mathlib.Core.Bool.{Bool, true, false}
+use mathlib.Core.Bool.{true}
 use mathlib.Core.List.{List, [], _∷_, _++_}
 use mathlib.Core.Logic.{⊎-elim}
-use mathlib.Core.Path.{_≡_, refl, sym, subst, ap, _∙_}
+use mathlib.Core.Path.{_≡_, sym, subst, ap}
 use Prim.Native.Nat.{ℕ, _<_, _≤_}
 use native.Mathlib.Omega.{arith}
-use lib.ListN.{length, getD}
-use Rattle.std.specs.declared.option.Option.the-variants.{Some, None}
+use lib.ListN.{length}
 use Rattle.std.specs.declared.result.Result.{Result}
 use Rattle.std.specs.declared.result.Result.the-variants.{Ok, Err}
 use Rattle.std.proofs.shelf.Lists.{getD-append-left, getD-push, length-push}
@@ -15,37 +14,32 @@ use Rattle.refusals.specs.declared.Refusal.{Refusal}
 use Rattle.refusals.proofs.Clearing.{clear, cleared}
 use Rattle.register.specs.Registers.{entries, room}
 use Rattle.bits.specs.Bits.{has}
-use Rattle.logic.specs.Interpretations.{Interpretation}
 use Rattle.vocabulary.specs.declared.Vocabulary.{Vocabulary}
 use Rattle.vocabulary.specs.Vocabularies.{concepts}
 use Rattle.vocabulary.specs.Keeping.{Kept}
-use Rattle.calculus.specs.Cases.{MeetsAxioms, Inhabits}
+use Rattle.calculus.specs.Cases.{Inhabits}
 use Rattle.calculus.specs.Calculi.{Calculus, LawfulCalculus}
 use Rattle.book.specs.declared.filing.Draft.{Draft}
 use Rattle.book.specs.declared.line.Line.{Line}
 use Rattle.book.specs.Lines.{blank, label-of}
-use Rattle.book.specs.Drafts.{members, label, line-of, conclusion, Admitted}
+use Rattle.book.specs.Drafts.{members, label, line-of, Admitted}
 use Rattle.book.proofs.Admitting.{admitted}
 use Rattle.docket.specs.declared.Docket.{Docket}
 use Rattle.docket.specs.Dockets.{Fresh, count, lines}
-use Rattle.docket.specs.Calls.{Call, inclusion, transitivity, concept, pair, general, seal, line, all-rows, rows, Acts, Done}
+use Rattle.docket.specs.Calls.{Call, inclusion, transitivity, concept, pair, general, seal, line, all-rows, rows, Acts}
 use Rattle.docket.specs.Runs.{Lent, Reached, began, called}
 use Rattle.docket.proofs.Reaching.{reached-kept}
 use Rattle.facts.specs.Lines.{Empty, LinesAreEmpty}
-use Rattle.facts.proofs.Licences.{licensed-empty}
+use Rattle.facts.proofs.Licences.{LabelsBelow, licensed-empty}
 use Rattle.facts.proofs.Growing.{Grown, grown-count, grown-same, grown-role-axiom, grown-concept, grown-pair, grown-axiom, empty-stays}
 use Rattle.facts.proofs.Members.{none-absent, in-row}
-
--- the labels of these lines have only numbers below n
-abbrev pub LabelsStand : ℕ → List Line → Type 0
-LabelsStand n ls = (k c : ℕ) → k < length ls → has (label-of ls k) c ≡ true → c < n
 
 abbrev pub AllEmpty : Vocabulary → List Line → Type 0
 AllEmpty v ls = (k : ℕ) → k < length ls → Empty v (has (label-of ls k))
 
 -- what every call keeps: labels are of standing concepts, and none is inhabited
 pub record Invariant (d : Docket) : Type 0 where
-  pub labels-stand : LabelsStand (count d) (lines d)
+  pub labels-stand : LabelsBelow (count d) (lines d)
   pub all-empty : AllEmpty (d .vocabulary) (lines d)
 
 -- a vocabulary that has grown
@@ -54,7 +48,7 @@ grown-invariant d e kept g same s =
     let more = grown-count (d .vocabulary) (e .vocabulary) g in
     let ls : lines e ≡ lines d = ap entries same in
     record {
-      labels-stand = subst (LabelsStand (count e)) (sym ls) (λ k c l h. let b = s .labels-stand k c l h in omega arith);
+      labels-stand = subst (LabelsBelow (count e)) (sym ls) (λ k c l h. let b = s .labels-stand k c l h in omega arith);
       all-empty = subst (AllEmpty (e .vocabulary)) (sym ls) (λ k l. empty-stays (d .vocabulary) (e .vocabulary) _ kept g (λ c h. s .labels-stand k c l h) (s .all-empty k l));
     }
 
@@ -75,14 +69,14 @@ module _ (k : Calculus) (law : LawfulCalculus k) (f : Draft) (d : Docket) (kept 
       let few = kept .concepts-kept .few in
       licensed-empty (Inhabits I (d .vocabulary))
       (λ X Y less i. record { element = i .element; inside = i .inside; in-all = λ c y. i .in-all c (less c y) })
-      k (d .vocabulary) (lines d) (room (d .book)) f (law .few (f .rule))
+      k (d .vocabulary) (lines d) f (law .few (f .rule))
       (λ applies i. law .sound (f .rule) (d .vocabulary) (f .on) (label f) I kept meets applies i)
       (λ n c l b. let t = s .labels-stand n c l b in omega arith)
-      (λ n l. s .all-empty n l I meets) a h
+      (λ n l. s .all-empty n l I meets) (a .first-stands) (a .second-stands) (a .licensed) h
 
   line-invariant : (e : Docket) → lines e ≡ lines d ++ line-of k f ∷ [] → e .vocabulary ≡ d .vocabulary → Invariant e
   line-invariant e more same = record {
-    labels-stand = subst (λ (v : Vocabulary). LabelsStand (length (concepts v)) (lines e)) (sym same) (subst (LabelsStand (count d)) (sym more)
+    labels-stand = subst (λ (v : Vocabulary). LabelsBelow (length (concepts v)) (lines e)) (sym same) (subst (LabelsBelow (count d)) (sym more)
         (λ n c l. label-push (λ x. has x c ≡ true → c < count d) (lines d) (line-of k f) n l (s .labels-stand n c) (members-stand c)));
     all-empty = subst (λ (v : Vocabulary). AllEmpty v (lines e)) (sym same) (subst (AllEmpty (d .vocabulary)) (sym more)
         (λ n l. label-push (λ x. Empty (d .vocabulary) (has x)) (lines d) (line-of k f) n l (s .all-empty n) label-empty));
@@ -102,7 +96,7 @@ acts-invariant (line k f) d e (Ok i) lent kept h s =
 
 fresh-invariant : (d : Docket) → Fresh d → Invariant d
 fresh-invariant d f = record {
-  labels-stand = subst (LabelsStand (count d)) (sym (f .no-line)) (λ k c l h. absurd (omega arith));
+  labels-stand = subst (LabelsBelow (count d)) (sym (f .no-line)) (λ k c l h. absurd (omega arith));
   all-empty = subst (AllEmpty (d .vocabulary)) (sym (f .no-line)) (λ k l. absurd (omega arith));
 }
 

@@ -1,7 +1,7 @@
 -- Pairs, seals, lines and refused calls: what they leave as it was.
-use mathlib.Core.Bool.{true, false}
+use mathlib.Core.Bool.{true}
 use mathlib.Core.List.{List, [], _∷_, _++_, append-nil, append-assoc}
-use mathlib.Core.Logic.{_⊎_, inl, inr}
+use mathlib.Core.Logic.{inl, inr}
 use mathlib.Core.Path.{_≡_, refl, sym, subst, ap, _∙_}
 use Prim.Native.Nat.{ℕ, _+_, _<_, _≤_}
 use native.Mathlib.Omega.{arith}
@@ -11,9 +11,9 @@ use Rattle.std.specs.declared.result.Result.the-variants.{Ok, Err}
 use Rattle.std.proofs.shelf.Lists.{getD-append-left, length-push}
 use Rattle.refusals.specs.declared.Refusal.{Refusal}
 use Rattle.register.specs.Registers.{entries, room}
-use Rattle.labels.specs.Labels.{row, among}
+use Rattle.labels.specs.Labels.{row}
 use Rattle.vocabulary.specs.declared.Vocabulary.{Vocabulary}
-use Rattle.vocabulary.specs.Vocabularies.{concepts, Paired}
+use Rattle.vocabulary.specs.Vocabularies.{Paired}
 use Rattle.vocabulary.specs.Keeping.{Kept}
 use Rattle.vocabulary.proofs.Keeping.{kept-pair}
 use Rattle.calculus.specs.Calculi.{Calculus}
@@ -141,7 +141,13 @@ module _ (k : Calculus) (proper : Proper k) where
   -- the same book
   later-book : (d e : Docket) → Good e → ((t : Tree) → Closed k (d .vocabulary) t → Closed k (e .vocabulary) t) → e .book ≡ d .book → Later 0 d e
   later-book d e g c b = record {
-    good = g; closed = c; same-room = ap room b; more = []; lines-more = ap entries b ∙ sym (append-nil (lines d)); few = omega (arith, ap (λ r. length (entries r)) b) }
+    good = g;
+    closed = c;
+    same-room = ap room b;
+    more = [];
+    lines-more = ap entries b ∙ sym (append-nil (lines d));
+    few = omega (arith, ap (λ r. length (entries r)) b);
+  }
 
   pub acts-later : (c : Call) (a : Result ℕ Refusal) (d e : Docket) → Steady c a → Good d → Acts c d a e → Later (taken c a) d e
   acts-later c (Err x) d e s g h = subst (Later 0 d) (sym (h .1)) (later-self d g)

@@ -1,42 +1,39 @@
 -- A closed tree is taken, whatever the order of its lines, if children come before their parents.
-use mathlib.Core.Bool.{true, false, not}
+use mathlib.Core.Bool.{true, not}
 use mathlib.Core.List.{List, [], _∷_, _++_}
 use mathlib.Core.Path.{_≡_, refl, sym, subst, ap, _∙_}
-use Prim.Native.Nat.{ℕ, _+_, _-_, _<_, _≤_}
+use Prim.Native.Nat.{ℕ, _+_, _<_, _≤_}
 use native.Mathlib.Omega.{arith}
 use lib.ListN.{length, getD}
-use Rattle.std.specs.declared.option.Option.the-variants.{Some, None}
+use Rattle.std.specs.declared.option.Option.the-variants.{None}
 use Rattle.std.specs.declared.result.Result.{Result}
 use Rattle.std.specs.declared.result.Result.the-variants.{Ok, Err}
 use Rattle.std.proofs.shelf.Lists.{getD-push, length-push}
 use Rattle.refusals.specs.declared.Refusal.{Refusal}
 use Rattle.refusals.specs.declared.Refusal.the-variants.{Phase}
-use Rattle.refusals.specs.Checks.{first}
 use Rattle.refusals.proofs.Clearing.{clear, cleared, none-when}
 use Rattle.register.specs.Registers.{room}
 use Rattle.bits.specs.Bits.{has}
-use Rattle.labels.specs.Labels.{row, among}
+use Rattle.labels.specs.Labels.{among}
 use Rattle.vocabulary.specs.Vocabularies.{concepts}
 use Rattle.calculus.specs.Calculi.{Calculus, LawfulCalculus}
 use Rattle.book.specs.declared.filing.Draft.{Draft}
 use Rattle.book.specs.declared.line.Line.{Line}
 use Rattle.book.specs.Lines.{blank, label-of}
-use Rattle.book.specs.Drafts.{members, label, line-of, conclusion, draft-rows, Admitted}
+use Rattle.book.specs.Drafts.{members, label, line-of, conclusion, Admitted}
 use Rattle.book.proofs.Admitting.{no-row}
 use Rattle.docket.specs.declared.Docket.{Docket}
 use Rattle.docket.specs.declared.phase.Phase.{Phase as DocketPhase}
-use Rattle.docket.specs.declared.phase.Phase.the-variants.{Sealed}
 use Rattle.docket.specs.declared.phase.Kind.the-variants.{Line as LineKind}
 use Rattle.docket.specs.Phases.{admits}
 use Rattle.docket.specs.Dockets.{lines}
 use Rattle.docket.specs.Calls.{line, all-rows, rows, refusal, Acts}
-use Rattle.docket.specs.Runs.{Reached}
 use Rattle.docket.proofs.Reaching.{reached-kept}
 use Rattle.facts.specs.Events.{Event, Ran, Each, Interleaved}
-use Rattle.facts.specs.Trees.{Node, Tree, leaf, one, two, root, nodes, Applied, Carries, Closed}
-use Rattle.facts.specs.Filing.{node-of, filing, Cites, FiledBy, leaf-filed, one-filed, two-filed, Files, Taken, StandsWith, free, TreesAreTaken, Proper, ClosedTreesAreTaken}
+use Rattle.facts.specs.Trees.{Tree, leaf, one, two, root, nodes, Applied, Carries, Closed}
+use Rattle.facts.specs.Filing.{node-of, filing, Cites, FiledBy, leaf-filed, one-filed, two-filed, Taken, StandsWith, free, Proper, ClosedTreesAreTaken}
 use Rattle.facts.proofs.Members.{in-row, all-stand, none-falling}
-use Rattle.facts.proofs.Interleaving.{swapped, regrouped, length-interleaved, Split, split, ran-split, each-split, each-push, each-interleaved, each-map, sum, sum-append, sum-interleaved, sum-short}
+use Rattle.facts.proofs.Interleaving.{swapped, regrouped, length-interleaved, split, ran-split, each-split, each-push, each-interleaved, each-map, sum, sum-append, sum-interleaved, sum-short}
 use Rattle.facts.proofs.Steady.{IsSteady, Steady, weight, weight-small, all-nothing, Good, Later, acts-later, run-later, still-taken, still-stands}
 
 -- filings are steady, and as many as nodes
@@ -123,8 +120,7 @@ module _ (k : Calculus) (law : LawfulCalculus k) (proper : Proper k) where
       let x = line-of k f in
       let more = h .1 .0 .3 in
       let there : i < length (lines e) = omega (arith, ap length more, length-push (lines d) x, h .1 .0 .0) in
-      let is : getD (lines e) i blank ≡ x = ap (λ ls. getD ls i blank) more ∙ getD-push (lines d) x blank i (sym (h .1 .0 .0)) in
-      (
+      let is : getD (lines e) i blank ≡ x = ap (λ ls. getD ls i blank) more ∙ getD-push (lines d) x blank i (sym (h .1 .0 .0)) in (
         record { draft = f; number = i; files = refl; answered = refl; stands = there; as-drafted = is },
         record { number = i; answered = refl; stands = there; has-label = ap (λ (y : Line). y .label) is },
       )
@@ -156,11 +152,20 @@ module _ (k : Calculus) (law : LawfulCalculus k) (proper : Proper k) where
       let then = acts-later k proper (line k f) a (r .0) (r .2 .0) (line-steady k f a) (before .good) (r .2 .1) in
       let after = run-later k proper (s .after) (r .2 .0) e (parts .1) (then .good) (r .2 .2) in
       let few-before : length zs + sum weight (s .early) + 1 ≤ free d =
-          omega (arith, length-push zs x, ap (sum weight) (s .others-are), sum-append weight (s .early) (s .after)) in
+      omega (arith, length-push zs x, ap (sum weight) (s .others-are), sum-append weight (s .early) (s .after)) in
       record {
-        here = r .0; next = r .2 .0; early = s .early; run = s .before; earlier = s .earlier; steady = parts .0; ran = r .1;
+        here = r .0;
+        next = r .2 .0;
+        early = s .early;
+        run = s .before;
+        earlier = s .earlier;
+        steady = parts .0;
+        ran = r .1;
         few = omega arith;
-        before = before; acts = r .2 .1; between = sum weight (s .after); after = after;
+        before = before;
+        acts = r .2 .1;
+        between = sum weight (s .after);
+        after = after;
         space = omega (arith, before .few, before .same-room, sum-interleaved weight (s .earlier), sum-short weight weight-small zs);
       }
 
@@ -171,11 +176,10 @@ module _ (k : Calculus) (law : LawfulCalculus k) (proper : Proper k) where
       let good = m .before .good in
       let now = admitted-taken a (m .here) (m .next) f (admitted-refusal (m .here) f good (ready-admitted (m .here) f good (m .space) ready)) (m .acts) in
       let then = acts-later k proper (line k f) a (m .here) (m .next) (line-steady k f a) good (m .acts) in
-      let stay = still-taken k proper (m .between) (m .next) e (m .after) in
-      (
+      let stay = still-taken k proper (m .between) (m .next) e (m .after) in (
         each-push (Taken k e) zs (filing k f a)
-        (each-map (Taken k (m .here)) (Taken k e) (λ x t. stay x (still-taken k proper _ (m .here) (m .next) then x t)) zs old)
-        (stay (filing k f a) (now .0)),
+            (each-map (Taken k (m .here)) (Taken k e) (λ x t. stay x (still-taken k proper _ (m .here) (m .next) then x t)) zs old)
+            (stay (filing k f a) (now .0)),
         still-stands k proper (m .between) (m .next) e (m .after) (members f) a (now .1),
       )
 
