@@ -5,3 +5,4 @@ pub mod Emptiness
 pub mod Interleaving
 pub mod Steady
 pub mod Taking
+pub mod ProperBanks

@@ -26,7 +26,8 @@ use Rattle.docket.specs.Dockets.{lines}
 use Rattle.docket.specs.Calls.{Call, inclusion, transitivity, concept, pair, general, seal, line, Acts}
 use Rattle.facts.specs.Events.{Event, Ran, Each, NothingFiled}
 use Rattle.facts.specs.Trees.{Node, Tree, leaf, one, two, root, Applied, Carries, Closed}
-use Rattle.facts.specs.Filing.{Taken, StandsWith, Proper}
+use Rattle.facts.specs.Proper.{Proper}
+use Rattle.facts.specs.Filing.{Taken, StandsWith}
 use Rattle.facts.proofs.Interleaving.{sum}
 
 -- a pair, a seal, a line, or refused
@@ -105,11 +106,11 @@ module _ (k : Calculus) (proper : Proper k) where
     applied-pair n a = record {
       rising = a .rising;
       stands = λ x m. rw (h .3) (a .stands x m);
-      applies = proper .still-applies v w c d kept h (n .rule) (n .on) (row (n .label)) (a .applies);
+      applies = proper (n .rule) .still-applies v w c d kept h (n .on) (row (n .label)) (a .applies);
     }
 
     carries-pair : (n m : Node) (i : ℕ) → Applied k v n → Carries k v n i m → Carries k w n i m
-    carries-pair n m i a q x l = q x (rw (h .3) at l) ∙ sym (proper .still-concludes v w c d kept h (n .rule) (n .on) (row (n .label)) (a .applies) i x)
+    carries-pair n m i a q x l = q x (rw (h .3) at l) ∙ sym (proper (n .rule) .still-concludes v w c d kept h (n .on) (row (n .label)) (a .applies) i x)
 
     closed-pair : (t : Tree) → Closed k v t → Closed k w t
     closed-pair (leaf n) q = (applied-pair n (q .0), q .1)

@@ -31,7 +31,8 @@ use Rattle.docket.specs.Calls.{line, all-rows, rows, refusal, Acts}
 use Rattle.docket.proofs.Reaching.{reached-kept}
 use Rattle.facts.specs.Events.{Event, Ran, Each, Interleaved}
 use Rattle.facts.specs.Trees.{Tree, leaf, one, two, root, nodes, Applied, Carries, Closed}
-use Rattle.facts.specs.Filing.{node-of, filing, Cites, FiledBy, leaf-filed, one-filed, two-filed, Taken, StandsWith, free, Proper, ClosedTreesAreTaken}
+use Rattle.facts.specs.Proper.{Proper}
+use Rattle.facts.specs.Filing.{node-of, filing, Cites, FiledBy, leaf-filed, one-filed, two-filed, Taken, StandsWith, free, ClosedTreesAreTaken}
 use Rattle.facts.proofs.Members.{in-row, all-stand, none-falling}
 use Rattle.facts.proofs.Interleaving.{swapped, regrouped, length-interleaved, split, ran-split, each-split, each-push, each-interleaved, each-map, sum, sum-append, sum-interleaved, sum-short}
 use Rattle.facts.proofs.Steady.{IsSteady, Steady, weight, weight-small, all-nothing, Good, Later, acts-later, run-later, still-taken, still-stands}
@@ -90,7 +91,7 @@ module _ (k : Calculus) (law : LawfulCalculus k) (proper : Proper k) where
   ready-admitted : (d : Docket) (f : Draft) → Good d → length (lines d) < room (d .book) → Ready d f → Admitted k (d .vocabulary) (lines d) (room (d .book)) f
   ready-admitted d f good space r =
       let v = d .vocabulary in
-      let ps = proper .principals-stand (f .rule) v (f .on) (label f) (good .kept) (λ c h. r .applied .stands c (in-row (members f) c h)) (r .applied .applies) in
+      let ps = proper (f .rule) .principals-stand v (f .on) (label f) (good .kept) (λ c h. r .applied .stands c (in-row (members f) c h)) (r .applied .applies) in
       record {
         known = law .known (f .rule) v (f .on) (label f) (r .applied .applies);
         first-unused = r .first-unused;

@@ -1,5 +1,4 @@
 -- Closed trees are taken, line by line, in every order that puts children before their parents.
-use mathlib.Core.Bool.{true}
 use mathlib.Core.List.{List, [], _∷_, _++_}
 use mathlib.Core.Path.{_≡_}
 use Prim.Native.Nat.{ℕ, _-_, _<_, _≤_}
@@ -8,12 +7,7 @@ use Rattle.std.specs.declared.result.Result.{Result}
 use Rattle.std.specs.declared.result.Result.the-variants.{Ok, Err}
 use Rattle.refusals.specs.declared.Refusal.{Refusal}
 use Rattle.register.specs.Registers.{room}
-use Rattle.bits.specs.Bits.{has}
 use Rattle.labels.specs.Labels.{row}
-use Rattle.vocabulary.specs.declared.Vocabulary.{Vocabulary}
-use Rattle.vocabulary.specs.Vocabularies.{concepts, Paired}
-use Rattle.vocabulary.specs.Keeping.{Kept}
-use Rattle.calculus.specs.declared.rule.Principals.{Principals}
 use Rattle.calculus.specs.Calculi.{Calculus, LawfulCalculus}
 use Rattle.book.specs.declared.filing.Draft.{Draft}
 use Rattle.book.specs.Lines.{blank, label-of}
@@ -24,6 +18,7 @@ use Rattle.docket.specs.Dockets.{lines}
 use Rattle.docket.specs.Calls.{line}
 use Rattle.docket.specs.Runs.{Reached}
 use Rattle.facts.specs.Events.{Event, Ran, Each, Interleaved, NothingFiled}
+use Rattle.facts.specs.Proper.{Proper}
 use Rattle.facts.specs.Trees.{Node, Tree, leaf, one, two, root, nodes, Closed}
 
 -- the node that a draft writes down
@@ -48,10 +43,12 @@ pub data FiledBy (k : Calculus) : Tree → List Event → Result ℕ Refusal →
   two-filed : (f : Draft) (a : Result ℕ Refusal) {t u : Tree} {xs ys zs : List Event} {b c : Result ℕ Refusal}
       → FiledBy k t xs b → FiledBy k u ys c → Interleaved xs ys zs → Cites (f .m) b → Cites (f .n) c → FiledBy k (two (node-of f) t u) (zs ++ filing k f a ∷ []) a
 
--- a run that files the tree, and between its lines nothing else
+-- A run that files the tree and nothing else: its events are the filings of the nodes, in such an order, and between them
+-- others by which nothing is filed.
 pub record Files (k : Calculus) (t : Tree) (run : List Event) : Type 0 where
   pub filings : List Event
   pub others : List Event
+  -- the answer to the filing of the root
   pub last : Result ℕ Refusal
   pub in-order : FiledBy k t filings last
   pub between : Interleaved filings others run
@@ -77,20 +74,12 @@ pub record StandsWith (e : Docket) (label : List ℕ) (a : Result ℕ Refusal) :
 abbrev pub free : Docket → ℕ
 free d = room (d .book) - length (lines d)
 
--- EVERY CLOSED TREE FOR WHICH THERE IS ROOM IS TAKEN: each of its lines, and so its root
+-- EVERY CLOSED TREE FOR WHICH THERE IS ROOM IS TAKEN by a sealed docket, however its lines are ordered, if children come
+-- before their parents: each of them is answered with its number and stands, and so the root stands with the root's label
 abbrev pub TreesAreTaken : Calculus → Type 0
 TreesAreTaken k = (d : Docket) → Reached d → d .phase ≡ Sealed → (t : Tree) → Closed k (d .vocabulary) t → nodes t ≤ free d
     → (run : List Event) (o : Files k t run) (e : Docket) → Ran d run e → Each (Taken k e) (o .filings) × StandsWith e (root t .label) (o .last)
 
--- What this asks of a calculus: the principals of a step that applies to a label of standing concepts stand, and a pair more
--- leaves the step and its conclusions as they are.
-pub record Proper (k : Calculus) : Type 0 where
-  pub principals-stand : (n : ℕ) (v : Vocabulary) (on : Principals) (x : List ℕ) → Kept v → ((c : ℕ) → has x c ≡ true → c < length (concepts v))
-      → k .applies n v on x ≡ true → (on .p < length (concepts v)) × (on .q < length (concepts v)) × (on .s < length (concepts v))
-  pub still-applies : (v w : Vocabulary) (c d : ℕ) → Kept v → Paired v w c d true → (n : ℕ) (on : Principals) (x : List ℕ)
-      → k .applies n v on x ≡ true → k .applies n w on x ≡ true
-  pub still-concludes : (v w : Vocabulary) (c d : ℕ) → Kept v → Paired v w c d true → (n : ℕ) (on : Principals) (x : List ℕ)
-      → k .applies n v on x ≡ true → (i e : ℕ) → k .concludes n w on x i e ≡ k .concludes n v on x i e
-
+-- by every lawful calculus of proper rules
 abbrev pub ClosedTreesAreTaken : Type 0
 ClosedTreesAreTaken = (k : Calculus) → LawfulCalculus k → Proper k → TreesAreTaken k
