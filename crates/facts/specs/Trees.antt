@@ -1,4 +1,4 @@
--- Closed trees: derivations on paper, before any of their lines is filed.
+-- Closed trees: whole derivations, before any of their lines is filed.
 use mathlib.Core.Bool.{true}
 use mathlib.Core.List.{List}
 use mathlib.Core.Path.{_≡_}
