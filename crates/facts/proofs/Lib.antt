@@ -1,0 +1,8 @@
+pub mod Licences
+pub mod Growing
+pub mod Members
+pub mod Emptiness
+pub mod Interleaving
+pub mod Steady
+pub mod Taking
+pub mod ProperBanks
