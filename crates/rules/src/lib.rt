@@ -1,0 +1,4 @@
+pub mod bottom;
+pub mod clash;
+pub mod conclusion;
+pub mod conjunction;
