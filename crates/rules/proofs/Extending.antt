@@ -37,3 +37,16 @@ concluded-row v x r given added cites i applies l a e (sixteen, same) = (sixteen
     ∙ ap (λ m. ltb c 1024 && (ltb c 1024 && shown m)) e
     ∙ sym (ap (λ z. ltb c 1024 && ((z && applies) && (ltb c 1024 && shown added))) (lt-ltb i cites l)
     ∙ ap (λ z. ltb c 1024 && (z && (ltb c 1024 && shown added))) a))
+
+narrowed : (b t s : Bool) → (b && (t && (b && s))) ≡ (b && (b && (t && s)))
+narrowed true t s = refl
+narrowed false t s = refl
+
+-- a conclusion of a step that applies, from a row of all that it lists
+pub cut-row : (row r : List ℕ) (cites i count : ℕ) (applies : Bool) (shown lists : ℕ → Bool) → i < cites → applies ≡ true → ((c : ℕ) → shown c ≡ lists c)
+    → Row row shown → Row r (λ c. ltb c count && has row c) → Row r (λ c. (ltb i cites && applies) && (ltb c 1024 && (ltb c count && lists c)))
+cut-row row r cites i count applies shown lists l a e (_, all) (sixteen, cut) = (sixteen, λ c.
+    cut c ∙ ap (λ z. ltb c 1024 && (ltb c count && z)) (all c ∙ ap (λ z. ltb c 1024 && z) (e c))
+    ∙ narrowed (ltb c 1024) (ltb c count) (lists c)
+    ∙ sym (ap (λ z. ltb c 1024 && ((z && applies) && (ltb c 1024 && (ltb c count && lists c)))) (lt-ltb i cites l)
+    ∙ ap (λ z. ltb c 1024 && (z && (ltb c 1024 && (ltb c count && lists c)))) a))

@@ -5,7 +5,7 @@ ghost use lib.Dec.{eqb, ltb};
 ghost use Rattle.bits.specs.Bits.{has};
 ghost use Rattle.labels.specs.Labels.{Row};
 ghost use Rattle.vocabulary.specs.Vocabularies.{axiom?};
-ghost use Rattle.schemas.specs.House.{gives, neighbour};
+ghost use Rattle.schemas.specs.House.{passes, carries, gives, neighbour};
 ghost use Rattle.schemas.specs.Tests.{some-below};
 use crate::conclusion::nothing;
 use bits::has;
@@ -17,17 +17,34 @@ use labels::rows::next_from;
 use logic::concept::Concept;
 use vocabulary::Vocabulary;
 
-// Puts into the row what concept `d` of a label gives to a neighbour by role `r`.
-fn give(v: &Vocabulary, r: u16, d: u16, row: &mut [u64; 16])
-    ensures { λ _. ⌜ ((c : ℕ) → has (now (row .exit)) c ≡ (has (now (row .entry)) c || (ltb c 1024 && gives (now (v .entry)) r d c))) ⌝ }
+// Puts into the row the concept that concept `d` of a label passes to every neighbour by role `r`, if it does.
+fn pass(v: &Vocabulary, r: u16, d: u16, row: &mut [u64; 16])
+    ensures { λ _. ⌜ ((c : ℕ) → has (now (row .exit)) c ≡ (has (now (row .entry)) c || (ltb c 1024 && passes (now (v .entry)) r d c))) ⌝ }
 {
     if let Some(Concept::Only(s, e)) = v.concept(d) {
         if s == r {
             insert(row, e as usize);
         }
-        if v.is_below(r, s) && v.is_transitive(s) {
-            insert(row, d as usize);
-        }
+    }
+}
+
+// Whether concept `d` of a label is carried to every neighbour by role `r`.
+fn carries(v: &Vocabulary, r: u16, d: u16) -> bool
+    ensures { λ b. ⌜ b ≡ carries (now (v .entry)) r d ⌝ }
+{
+    match v.concept(d) {
+        Some(Concept::Only(s, _)) => v.is_below(r, s) && v.is_transitive(s),
+        _ => false,
+    }
+}
+
+// Puts into the row what concept `d` of a label gives to every neighbour by role `r`.
+fn give(v: &Vocabulary, r: u16, d: u16, row: &mut [u64; 16])
+    ensures { λ _. ⌜ ((c : ℕ) → has (now (row .exit)) c ≡ (has (now (row .entry)) c || (ltb c 1024 && gives (now (v .entry)) r d c))) ⌝ }
+{
+    pass(v, r, d, row);
+    if carries(v, r, d) {
+        insert(row, d as usize);
     }
 }
 

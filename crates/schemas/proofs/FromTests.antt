@@ -21,7 +21,7 @@ use Rattle.vocabulary.specs.Vocabularies.{concepts, concept-at, axiom?}
 use Rattle.calculus.specs.declared.rule.Principals.{Principals}
 use Rattle.schemas.specs.Table.{Applies, bottom, clash, conjunction, disjunction, narrower, general, cut, inverse-cut, transitive-cut, neighbour, conclusions, Lists, kept, first-part, second-part, first-case, second-case, the-narrower, the-general, cut-p, cut-q, inverse-p, inverse-q, inverse-s, transitive-p, transitive-q, transitive-s, asked, passed, carried, of-all}
 use Rattle.schemas.specs.Tests.{tagged, first-of, second-of, p-alone, some-below}
-use Rattle.schemas.specs.House.{p-or-q-s, gives, bottom as bottom-rule, clash as clash-rule, conjunction as conjunction-rule, disjunction as disjunction-rule, narrower as narrower-rule, general as general-rule, cut as cut-rule, inverse-cut as inverse-cut-rule, transitive-cut as transitive-cut-rule, neighbour as neighbour-rule}
+use Rattle.schemas.specs.House.{p-or-q-s, passes, carries, gives, bottom as bottom-rule, clash as clash-rule, conjunction as conjunction-rule, disjunction as disjunction-rule, narrower as narrower-rule, general as general-rule, cut as cut-rule, inverse-cut as inverse-cut-rule, transitive-cut as transitive-cut-rule, neighbour as neighbour-rule}
 use Rattle.schemas.proofs.Entries.{never, tagged-at, true-mates, true-below, true-transitive, true-axiom}
 use Rattle.schemas.proofs.SomeBelow.{some-there}
 
@@ -183,18 +183,18 @@ module _ (v : Vocabulary) (keeps : Kept v) (on : Principals) (x : List ℕ) wher
   gives-10 h d c i g =
       let k = concept-at v d in
       let r = first-of (concept-at v (on .p)) in
-      let (only, rest) = and-parts (tagged 6 k) _ g in
-      let d-is = tagged-at v d 6 only in
       let p-at = tagged-at v (on .p) 7 (p-is 7 h) in
       ⊎-elim
-      (λ w. let (a, b) = and-parts (eqb (first-of k) r) (eqb (second-of k) c) w in
+      (λ w. let (only, same) = and-parts (tagged 6 k) _ w in
+      let (a, b) = and-parts (eqb (first-of k) r) (eqb (second-of k) c) same in
       passed p-at i (subst (λ (t : ℕ). At (concepts v) d (Only t c)) (eqb-true (first-of k) r a)
-      (subst (λ (e : ℕ). At (concepts v) d (Only (first-of k) e)) (eqb-true (second-of k) c b) d-is)))
-      (λ w. let (a, e) = and-parts (below? (v .roles) r (first-of k) && transitive? (v .roles) (first-of k)) (eqb d c) w in
-      let (under, t) = and-parts (below? (v .roles) r (first-of k)) (transitive? (v .roles) (first-of k)) a in
+      (subst (λ (e : ℕ). At (concepts v) d (Only (first-of k) e)) (eqb-true (second-of k) c b) (tagged-at v d 6 only))))
+      (λ w. let (f, e) = and-parts (carries v r d) (eqb d c) w in
+      let (only, both) = and-parts (tagged 6 k) _ f in
+      let (under, t) = and-parts (below? (v .roles) r (first-of k)) (transitive? (v .roles) (first-of k)) both in
       subst (λ (j : ℕ). Has 10 0 j) (eqb-true d c e)
-      (carried p-at i d-is (true-below v keeps r (first-of k) under) (true-transitive v keeps (first-of k) t)))
-      (or-cases (eqb (first-of k) r && eqb (second-of k) c) _ rest)
+      (carried p-at i (tagged-at v d 6 only) (true-below v keeps r (first-of k) under) (true-transitive v keeps (first-of k) t)))
+      (or-cases (passes v r d c) (carries v r d && eqb d c) g)
 
   pub has-10 : neighbour-rule .applies v on x ≡ true → (i c : ℕ) → i < 1
       → ((eqb (second-of (concept-at v (on .p))) c || axiom? v c) || some-below 1024 (λ d. has x d && gives v (first-of (concept-at v (on .p))) d c)) ≡ true → Has 10 i c

@@ -89,11 +89,17 @@ transitive-cut = adding 9 2
     are-mates (v .mates) (on .p) (on .q) && (tagged 6 k && (transitive? (v .roles) (first-of k) && (tagged 6 j && (eqb (first-of j) (inverse (first-of k)) && eqb (second-of j) (on .q))))))
     (λ v on i. p-or-q-s on i)
 
--- concept d gives concept c to every neighbour by role r: it is "only R C"; or it is c, "only S E", where R is below S and S is transitive
+-- concept d passes concept c to every neighbour by role r: it is "only R C"
+abbrev pub passes : Vocabulary → ℕ → ℕ → ℕ → Bool
+passes v r d c = let k = concept-at v d in tagged 6 k && (eqb (first-of k) r && eqb (second-of k) c)
+
+-- concept d is carried to every neighbour by role r: it is "only S E", where R is below S and S is transitive
+abbrev pub carries : Vocabulary → ℕ → ℕ → Bool
+carries v r d = let k = concept-at v d in tagged 6 k && (below? (v .roles) r (first-of k) && transitive? (v .roles) (first-of k))
+
+-- concept d gives concept c to every neighbour by role r
 abbrev pub gives : Vocabulary → ℕ → ℕ → ℕ → Bool
-gives v r d c =
-    let k = concept-at v d in
-    tagged 6 k && ((eqb (first-of k) r && eqb (second-of k) c) || ((below? (v .roles) r (first-of k) && transitive? (v .roles) (first-of k)) && eqb d c))
+gives v r d c = passes v r d c || (carries v r d && eqb d c)
 
 abbrev pub neighbour : Schema
 neighbour = schema 10 1
