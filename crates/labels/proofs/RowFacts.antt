@@ -14,7 +14,7 @@ use Rattle.bits.proofs.BitFacts.{length-inserted, has-inserted, has-zeros}
 use Rattle.labels.specs.Labels.{among, filled, row}
 
 -- one number more, if the row has a place for it
-inserted-has : (r : List ℕ) (m c : ℕ) → has (inserted r m) c ≡ ((ltb c (64 * length r) && eqb m c) || has r c)
+pub inserted-has : (r : List ℕ) (m c : ℕ) → has (inserted r m) c ≡ ((ltb c (64 * length r) && eqb m c) || has r c)
 inserted-has r m c = ⊎-elim inside past (cases-lt m (64 * length r))
   where
     same : m < 64 * length r → eqb m c ≡ (ltb c (64 * length r) && eqb m c)
@@ -45,7 +45,7 @@ joined true true false old = refl
 joined true false rest old = refl
 joined false here rest old = refl
 
-filled-has : (r ms : List ℕ) (c : ℕ) → has (filled r ms) c ≡ ((ltb c (64 * length r) && among ms c) || has r c)
+pub filled-has : (r ms : List ℕ) (c : ℕ) → has (filled r ms) c ≡ ((ltb c (64 * length r) && among ms c) || has r c)
 filled-has r [] c = sym (ap (λ b. b || has r c) (and-false (ltb c (64 * length r))))
 filled-has r (m ∷ ms) c =
     filled-has (inserted r m) ms c

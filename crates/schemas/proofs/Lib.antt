@@ -1,0 +1,7 @@
+pub mod Entries
+pub mod SomeBelow
+pub mod Soundness
+pub mod FromTests
+pub mod ToTests
+pub mod Agreement
+pub mod HouseLaws

@@ -1,0 +1,4 @@
+pub mod Table
+pub mod Tests
+pub mod House
+pub mod Laws
