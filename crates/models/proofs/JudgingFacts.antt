@@ -22,6 +22,7 @@ use Rattle.models.specs.Firsts.{First}
 use Rattle.models.specs.Models.{WellFormed, described}
 use Rattle.models.specs.Evaluation.{Evaluated, RowIsFull}
 use Rattle.models.specs.Judging.{PointLiesIn}
+use Rattle.models.proofs.PairFacts.{element, in-range}
 
 pub first-map : (P Q : ℕ → Type 0) (n : ℕ) (o : Option ℕ) → ((k : ℕ) → k < n → P k ↔ Q k) → First P n o → First Q n o
 first-map P Q n None f h = λ k l. f k l .0 (h k l)
@@ -52,12 +53,12 @@ module _ (m : Model) (formed : WellFormed m) (cs : List Concept) (old new : List
   contains-lies c e l h =
       let f = formed .sized .few-elements in
       let r = evaluated .rows-hold c e l (omega arith) in
-      (λ t. r .0 t .1, λ t. r .1 (omega arith, t))
+      (λ t. r .0 t .1, λ t. r .1 (element m e h, t))
 
   pub full-holds : (c : ℕ) → c < length cs → ((c < length cs) × RowIsFull new (m .size) c) ↔ HoldsOfAll (described m) cs c
   full-holds c l = (
-    (λ t e h. let s = formed .sized .inhabited in let k : e < m .size = omega arith in contains-lies c e l k .0 (t .1 e k)),
-    λ t. (l, λ e h. contains-lies c e l h .1 (t e (omega arith))),
+    (λ t e h. let k = in-range m e formed h in contains-lies c e l k .0 (t .1 e k)),
+    λ t. (l, λ e h. contains-lies c e l h .1 (t e (element m e h))),
   )
 
   pub axioms-first : (listed : List ℕ) (o : Option ℕ) → AxiomsStand cs listed → First (λ k. (getD listed k 0 < length cs) × RowIsFull new (m .size) (getD listed k 0)) (length listed) o →

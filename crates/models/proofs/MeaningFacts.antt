@@ -24,7 +24,7 @@ use Rattle.models.specs.Models.{WellFormed, described}
 use Rattle.models.specs.Evaluation.{reaches, computed, RowsHold}
 use Rattle.models.proofs.Tests.{and-out, and-in, or-out, or-left, or-right, eq-T, either-way}
 use Rattle.models.proofs.AnyFacts.{any-some, some-any}
-use Rattle.models.proofs.PairFacts.{leads-out, leads-in, source-in-range, target-in-range}
+use Rattle.models.proofs.PairFacts.{element, in-range, leads-out, leads-in, source-in-range, target-in-range}
 
 -- the meaning of a concept depends on the meaning of its parts alone
 means-map : (I : Interpretation) (H K : ℕ → ℕ → Type 0) (c : ℕ) → ((a e : ℕ) → a < c → Element I e → H a e → K a e) →
@@ -73,12 +73,6 @@ module _ (m : Model) (formed : WellFormed m) where
   abbrev es : List ℕ
   es = now (m .edges)
 
-  in-range : (e : ℕ) → Element (described m) e → e < m .size
-  in-range e h = let s = formed .sized .inhabited in omega arith
-
-  element : (e : ℕ) → e < m .size → Element (described m) e
-  element e h = omega arith
-
   marked-in-range : (a e : ℕ) → T (marked (now (m .marks)) a e) → e < m .size
   marked-in-range a e t =
       let w = any-some (marks-in (now (m .marks))) _ t in
@@ -91,7 +85,7 @@ module _ (m : Model) (formed : WellFormed m) where
   reaches-leads : (r : ℕ) (g : ℕ → Bool) (e : ℕ) → T (reaches es r g e) → (y : ℕ) × Element I y × Leads I r e y × T (g y)
   reaches-leads r g e t =
       let (i, w) = reaches-out es r g e t in
-      (edge-target es r i, element _ (target-in-range m formed r i (w .listed)), subst (λ x. Leads I r x (edge-target es r i)) (w .source-is) (leads-in m r i (w .listed) (w .role-is)), w .passed)
+      (edge-target es r i, element m _ (target-in-range m formed r i (w .listed)), subst (λ x. Leads I r x (edge-target es r i)) (w .source-is) (leads-in m r i (w .listed) (w .role-is)), w .passed)
 
   leads-reaches : (r : ℕ) (g : ℕ → Bool) (e y : ℕ) → Leads I r e y → T (g y) → T (reaches es r g e)
   leads-reaches r g e y l t =
@@ -105,30 +99,30 @@ module _ (m : Model) (formed : WellFormed m) where
   computed-means : (rows : List ℕ) (c : ℕ) → OnlyElements rows c → (k : Concept) → all-below (parts k) c ≡ true → (e : ℕ) → e < 256 →
       T (computed m rows k e) ↔ (Element I e × Means I (λ a x. T (contains rows a x)) k e)
   unfolding OnlyElements
-  computed-means rows c o Top p e l = (λ t. (element e (ltb→lt e (m .size) t), tt), λ t. lt→ltb e (m .size) (in-range e (t .0)))
+  computed-means rows c o Top p e l = (λ t. (element m e (ltb→lt e (m .size) t), tt), λ t. lt→ltb e (m .size) (in-range m e formed (t .0)))
   computed-means rows c o Bottom p e l = (λ t. absurd t, λ t. t .1)
-  computed-means rows c o (Name a) p e l = (λ t. (element e (marked-in-range a e t), t), λ t. t .1)
+  computed-means rows c o (Name a) p e l = (λ t. (element m e (marked-in-range a e t), t), λ t. t .1)
   computed-means rows c o (NotName a) p e l = (
-    (λ t. let q = turned-out (ltb e (m .size)) (marked (now (m .marks)) a e) (λ u. lt→ltb e (m .size) (marked-in-range a e u)) t in (element e (ltb→lt e (m .size) (q .0)), q .1)),
-    λ t. turned-in (ltb e (m .size)) (marked (now (m .marks)) a e) (lt→ltb e (m .size) (in-range e (t .0))) (t .1),
+    (λ t. let q = turned-out (ltb e (m .size)) (marked (now (m .marks)) a e) (λ u. lt→ltb e (m .size) (marked-in-range a e u)) t in (element m e (ltb→lt e (m .size) (q .0)), q .1)),
+    λ t. turned-in (ltb e (m .size)) (marked (now (m .marks)) a e) (lt→ltb e (m .size) (in-range m e formed (t .0))) (t .1),
   )
   computed-means rows c o (And a b) p e l = (
-    (λ t. let q = and-out (contains rows a e) (contains rows b e) t in (element e (o a e (two-below a b c p .0) l (q .0)), q)),
+    (λ t. let q = and-out (contains rows a e) (contains rows b e) t in (element m e (o a e (two-below a b c p .0) l (q .0)), q)),
     λ t. and-in (contains rows a e) (contains rows b e) (t .1 .0) (t .1 .1),
   )
   computed-means rows c o (Or a b) p e l = (
-    (λ t. let q = or-out (contains rows a e) (contains rows b e) t in (element e (⊎-elim (λ u. o a e (two-below a b c p .0) l u) (λ u. o b e (two-below a b c p .1) l u) q), q)),
+    (λ t. let q = or-out (contains rows a e) (contains rows b e) t in (element m e (⊎-elim (λ u. o a e (two-below a b c p .0) l u) (λ u. o b e (two-below a b c p .1) l u) q), q)),
     λ t. ⊎-elim (λ u. or-left (contains rows a e) (contains rows b e) u) (λ u. or-right (contains rows a e) (contains rows b e) u) (t .1),
   )
   computed-means rows c o (Only r b) p e l = (
     (λ t.
         let q = turned-out (ltb e (m .size)) (reaches es r (λ y. not (contains rows b y)) e) (λ u. lt→ltb e (m .size) (reached-in-range r (λ y. not (contains rows b y)) e u)) t in
-        (element e (ltb→lt e (m .size) (q .0)), λ y hy g. ⊎-elim (λ z. z) (λ z. absurd (T-not _ (q .1) (leads-reaches r (λ y. not (contains rows b y)) e y g z))) (either-way (contains rows b y)))),
-    λ t. turned-in (ltb e (m .size)) (reaches es r (λ y. not (contains rows b y)) e) (lt→ltb e (m .size) (in-range e (t .0)))
+        (element m e (ltb→lt e (m .size) (q .0)), λ y hy g. ⊎-elim (λ z. z) (λ z. absurd (T-not _ (q .1) (leads-reaches r (λ y. not (contains rows b y)) e y g z))) (either-way (contains rows b y)))),
+    λ t. turned-in (ltb e (m .size)) (reaches es r (λ y. not (contains rows b y)) e) (lt→ltb e (m .size) (in-range m e formed (t .0)))
         (not-T _ (λ u. let (y, hy, g, z) = reaches-leads r (λ y. not (contains rows b y)) e u in T-not (contains rows b y) z (t .1 y hy g))),
   )
   computed-means rows c o (Exists r b) p e l = (
-    (λ t. (element e (reached-in-range r (λ y. contains rows b y) e t), reaches-leads r (λ y. contains rows b y) e t)),
+    (λ t. (element m e (reached-in-range r (λ y. contains rows b y) e t), reaches-leads r (λ y. contains rows b y) e t)),
     λ t. leads-reaches r (λ y. contains rows b y) e (t .1 .0) (t .1 .2) (t .1 .3),
   )
 
@@ -142,11 +136,11 @@ module _ (m : Model) (formed : WellFormed m) where
       (cases-eq a c)
     where
       small : (x : ℕ) → Element I x → x < 256
-      small x h = let f = formed .sized .few-elements in let s = formed .sized .inhabited in omega arith
+      small x h = let f = formed .sized .few-elements in let k = in-range m x formed h in omega arith
 
       here : T (contains new c e) ↔ (Element I e × LiesIn I cs c e)
       here =
-          let s = computed-means old c (λ a x ha lx t. in-range x (hold a x ha lx .0 t .0)) (getD cs c Top) (o c Top lc) e le in (
+          let s = computed-means old c (λ a x ha lx t. in-range m x formed (hold a x ha lx .0 t .0)) (getD cs c Top) (o c Top lc) e le in (
             λ t. let q = s .0 (subst T (becomes .elements e le) t) in (
               q .0,
               means-at I cs c e (getD cs c Top) (lc, refl)

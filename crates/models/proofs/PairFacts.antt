@@ -21,6 +21,13 @@ pub record IsPair (es : List ℕ) (i r x y : ℕ) : Type 0 where
   pub source-is : edge-source es r i ≡ x
   pub target-is : edge-target es r i ≡ y
 
+-- the elements of a model are the numbers below its size
+pub element : (m : Model) (x : ℕ) → x < m .size → Element (described m) x
+element m x h = omega arith
+
+pub in-range : (m : Model) (x : ℕ) → WellFormed m → Element (described m) x → x < m .size
+in-range m x formed h = let s = formed .sized .inhabited in omega arith
+
 module _ (m : Model) where
   abbrev es : List ℕ
   es = now (m .edges)
@@ -51,9 +58,6 @@ module _ (m : Model) where
 
   -- both ends of an edge are elements
   module _ (formed : WellFormed m) where
-    element : (x : ℕ) → x < m .size → Element (described m) x
-    element x h = omega arith
-
     pub source-in-range : (r i : ℕ) → i < edges-in es → edge-source es r i < m .size
     source-in-range r i k = go (eqb (r % 2) 0)
       where
@@ -73,7 +77,7 @@ module _ (m : Model) where
       (λ f x y hx hy t.
           let (i, p) = leads-out r x y t in
           subst (λ b. Leads (described m) s x b) (p .target-is) (subst (λ a. Leads (described m) s a (edge-target es r i)) (p .source-is) (f i (p .listed) (p .role-is)))),
-      λ f i k e. f _ _ (element _ (source-in-range r i k)) (element _ (target-in-range r i k)) (leads-in r i k e),
+      λ f i k e. f _ _ (element m _ (source-in-range r i k)) (element m _ (target-in-range r i k)) (leads-in r i k e),
     )
 
     -- a role is transitive exactly if its name is
@@ -99,8 +103,8 @@ module _ (m : Model) where
             ((x y z : ℕ) → Element (described m) x → Element (described m) y → Element (described m) z →
             T (cond b (joined es (r / 2) x y) (joined es (r / 2) y x)) → T (cond b (joined es (r / 2) y z) (joined es (r / 2) z y)) → T (cond b (joined es (r / 2) x z) (joined es (r / 2) z x))) →
             T (joined es (r / 2) x z)
-        go hx hy hz true g = g x y z (element x hx) (element y hy) (element z hz) u v
-        go hx hy hz false g = g z y x (element z hz) (element y hy) (element x hx) v u
+        go hx hy hz true g = g x y z (element m x hx) (element m y hy) (element m z hz) u v
+        go hx hy hz false g = g z y x (element m z hz) (element m y hy) (element m x hx) v u
 
     pub pairs-shortened : (r : ℕ) → ((k : ℕ) → k < edges-in es → Shortened m (r / 2) k) ↔ IsTransitive (described m) r
     unfolding Chained

@@ -72,6 +72,7 @@ module _ (roles : List RoleAxiom) (cs : List Concept) (listed label : List ℕ) 
     pub least-missed : First (PointLiesIn (described m) cs label (m .point)) (length cs) (Some c)
     pub evaluated : Evaluated (described m) cs old new
 
+  -- what each refusal says; no other is given
   abbrev pub Refused : Refusal → Type 0
   Refused (WrongModel k) = FirstFlaw m k × (new ≡ old)
   Refused (BrokenRoleAxiom i) = RoleAxiomBroken i

@@ -27,6 +27,7 @@ FirstBadMark m bad = First (GoodMark (now (m .marks)) (m .size)) (marks-in (now 
 abbrev pub FirstBadEdge : Model → Option ℕ → Type 0
 FirstBadEdge m bad = First (GoodEdge (now (m .edges)) (m .size)) (edges-in (now (m .edges))) bad
 
+-- sized, with no bad mark and no bad edge
 pub record WellFormed (m : Model) : Type 0 where
   pub sized : Sized m
   pub good-marks : FirstBadMark m None

@@ -91,6 +91,7 @@ pub(crate) fn rank(role_name: u16, from: u16, to: u16) -> u64
     65536 * (65536 * role_name as u64 + from as u64) + to as u64
 }
 
+// The rank of a listed edge.
 pub(crate) fn edge_rank(edges: &[u8], i: usize) -> u64
     requires { ⌜ i < edges-in (now edges) ⌝ }
     ensures { λ r. ⌜ r ≡ edge-rank (now (edges .entry)) i ⌝ }

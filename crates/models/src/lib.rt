@@ -26,8 +26,9 @@ pub struct Model<'f> {
     pub edges: &'f [u8],
 }
 
-// Whether a model meets the vocabulary's axioms, with its point in every concept of a label, which is a row of bits. The
-// rows are working memory: four words for each concept, in which the elements of the concept are left.
+// Whether a model is well formed, meets the vocabulary's role axioms and its axioms, and has its point in every concept
+// of a label, which is a row of bits. The first of these that fails is the answer. The rows are working memory: four
+// words for each concept, in which the elements of the concept are left.
 pub fn judge(
     vocabulary: &Vocabulary,
     label: &[u64; 16],
