@@ -1,13 +1,2 @@
-pub mod bottom;
-pub mod clash;
-pub mod conclusion;
-pub mod conjunction;
-pub mod cut;
-pub mod disjunction;
-pub mod general;
 pub mod house;
-pub mod inverse_cut;
-pub mod narrower;
-pub mod neighbour;
 pub mod table;
-pub mod transitive_cut;

@@ -1,0 +1,3 @@
+pub mod cut;
+pub mod inverse_cut;
+pub mod transitive_cut;

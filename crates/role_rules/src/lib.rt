@@ -1,0 +1,2 @@
+pub mod narrower;
+pub mod neighbour;
