@@ -1,11 +1,11 @@
 ghost use Rattle.schemas.specs.House.{cut};
-use schemas::conclusion::extended;
-use schemas::conclusion::nothing;
 use calculus::rule::Principals;
 use calculus::rule::Rule;
+use schemas::conclusion::extended;
+use schemas::conclusion::nothing;
 use vocabulary::Vocabulary;
 
-// Rule 7: an element has one of two mates.
+// Rule 7: p and q are mates. Conclusions: the label and p; the label and q.
 #[derive(Drop)]
 pub struct CutRule {}
 

@@ -1,13 +1,14 @@
 ghost use Rattle.schemas.specs.House.{inverse-cut};
-use schemas::conclusion::extended;
-use schemas::conclusion::nothing;
 use calculus::rule::Principals;
 use calculus::rule::Rule;
 use logic::concept::Concept;
 use logic::role::inverse;
+use schemas::conclusion::extended;
+use schemas::conclusion::nothing;
 use vocabulary::Vocabulary;
 
-// Rule 8: an element has one of two mates; and where it has the second, each neighbour has a way back to it.
+// Rule 8: p and q are mates, and s is "only R E", where E is "some R' q" and R' the inverse of R. Conclusions: the label and p;
+// the label, q and s. Where an element lies in q, R' leads back to it from each neighbour by R.
 #[derive(Drop)]
 pub struct InverseCutRule {}
 

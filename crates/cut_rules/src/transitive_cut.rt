@@ -1,13 +1,14 @@
 ghost use Rattle.schemas.specs.House.{transitive-cut};
-use schemas::conclusion::extended;
-use schemas::conclusion::nothing;
 use calculus::rule::Principals;
 use calculus::rule::Rule;
 use logic::concept::Concept;
 use logic::role::inverse;
+use schemas::conclusion::extended;
+use schemas::conclusion::nothing;
 use vocabulary::Vocabulary;
 
-// Rule 9: an element has one of two mates, p and q; and where it has q, so has each element that a transitive role leads from.
+// Rule 9: p and q are mates, p is "only R C", where R is transitive, and s is "only R' q". Conclusions: the label and p; the label,
+// q and s. Where an element lies in q, so does each element that R leads from to it.
 #[derive(Drop)]
 pub struct TransitiveCutRule {}
 

@@ -1,12 +1,12 @@
 ghost use Rattle.schemas.specs.House.{bottom};
-use schemas::conclusion::nothing;
 use bits::has;
 use calculus::rule::Principals;
 use calculus::rule::Rule;
 use logic::concept::Concept;
+use schemas::conclusion::nothing;
 use vocabulary::Vocabulary;
 
-// Rule 1: the label has Bottom, which no element has.
+// Rule 1: p is in the label and is Bottom. No conclusion: no element lies in Bottom.
 #[derive(Drop)]
 pub struct BottomRule {}
 

@@ -1,11 +1,11 @@
 ghost use Rattle.schemas.specs.House.{clash};
-use schemas::conclusion::nothing;
 use bits::has;
 use calculus::rule::Principals;
 use calculus::rule::Rule;
+use schemas::conclusion::nothing;
 use vocabulary::Vocabulary;
 
-// Rule 2: the label has two mates, which no element has both.
+// Rule 2: p and q are in the label and are mates. No conclusion: no element lies in both.
 #[derive(Drop)]
 pub struct ClashRule {}
 
@@ -25,10 +25,7 @@ pub impl Rule for ClashRule as ClashIsRule {
     }
 
     fn applies(&self, v: &Vocabulary, on: Principals, x: &[u64; 16]) -> bool {
-        has(x, on.p as usize)
-            && has(x, on.q as usize)
-            && v.are_mates(on.p, on.q)
-            && on.s == 0
+        has(x, on.p as usize) && has(x, on.q as usize) && v.are_mates(on.p, on.q) && on.s == 0
     }
 
     fn conclusion(&self, v: &Vocabulary, on: Principals, x: &[u64; 16], i: u8) -> [u64; 16] {

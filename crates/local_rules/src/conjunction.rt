@@ -1,13 +1,13 @@
 ghost use Rattle.schemas.specs.House.{conjunction};
-use schemas::conclusion::extended;
-use schemas::conclusion::nothing;
 use bits::has;
 use calculus::rule::Principals;
 use calculus::rule::Rule;
 use logic::concept::Concept;
+use schemas::conclusion::extended;
+use schemas::conclusion::nothing;
 use vocabulary::Vocabulary;
 
-// Rule 3: an "and" of the label gives both of its parts.
+// Rule 3: p is in the label, "C and D". Conclusion: the label, C and D.
 #[derive(Drop)]
 pub struct ConjunctionRule {}
 

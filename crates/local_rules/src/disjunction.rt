@@ -1,13 +1,13 @@
 ghost use Rattle.schemas.specs.House.{disjunction};
-use schemas::conclusion::extended;
-use schemas::conclusion::nothing;
 use bits::has;
 use calculus::rule::Principals;
 use calculus::rule::Rule;
 use logic::concept::Concept;
+use schemas::conclusion::extended;
+use schemas::conclusion::nothing;
 use vocabulary::Vocabulary;
 
-// Rule 4: an "or" of the label gives its first part, or else its second.
+// Rule 4: p is in the label, "C or D". Conclusions: the label and C; the label and D.
 #[derive(Drop)]
 pub struct DisjunctionRule {}
 

@@ -1,11 +1,11 @@
 ghost use Rattle.schemas.specs.House.{general};
-use schemas::conclusion::extended;
-use schemas::conclusion::nothing;
 use calculus::rule::Principals;
 use calculus::rule::Rule;
+use schemas::conclusion::extended;
+use schemas::conclusion::nothing;
 use vocabulary::Vocabulary;
 
-// Rule 6: an axiom is given to every label.
+// Rule 6: p is an axiom. Conclusion: the label and p.
 #[derive(Drop)]
 pub struct GeneralRule {}
 

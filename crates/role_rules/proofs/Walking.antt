@@ -44,8 +44,11 @@ put-both row mid new first second a b c =
 -- where the walk starts
 pub walk-starts : (row new : List ℕ) (m : ℕ) (f : ℕ → ℕ → Bool) → length row ≡ 16 → length new ≡ 16 → new ≡ inserted row m
     → Row new (λ k. (eqb m k || has row k) || some-below 0 (f k))
-walk-starts row new m f size size′ e = (size′, λ k. has-put row new m size e k ∙ ⊎-elim (inside k) (past k) (cases-lt k 1024)
-    ∙ sym (ap (λ z. ltb k 1024 && z) (ap (λ z. (eqb m k || has row k) || z) (some-none (f k)) ∙ or-false (eqb m k || has row k))))
+walk-starts row new m f size size′ e = (
+  size′,
+  λ k. has-put row new m size e k ∙ ⊎-elim (inside k) (past k) (cases-lt k 1024)
+      ∙ sym (ap (λ z. ltb k 1024 && z) (ap (λ z. (eqb m k || has row k) || z) (some-none (f k)) ∙ or-false (eqb m k || has row k))),
+)
   where
     inside : (k : ℕ) → k < 1024 → (has row k || (ltb k 1024 && eqb m k)) ≡ (ltb k 1024 && (eqb m k || has row k))
     inside k l = rw (lt-ltb k 1024 l) (or-comm (has row k) (eqb m k))
@@ -63,29 +66,39 @@ module _ (x : List ℕ) (from : ℕ) where
   next-at : (d : ℕ) → next-from x from ≡ Some d → (d < 1024) × (from ≤ d) × (has x d ≡ true) × ((k : ℕ) → from ≤ k → k < d → has x k ≡ false)
   next-at d h =
       let (l, t, rest) = least-some 1024 d (λ k. leb from k && has x k) h in
-      let (a, b) = and-parts (leb from d) (has x d) t in
-      (l, leb-true from d a, b, λ k lo hi. ⊎-elim
-      (λ (z : leb from k ≡ false). absurd (both-ways (leb from k) z (le-leb from k lo)))
-      (λ (z : has x k ≡ false). z)
-      (and-cases (leb from k) (has x k) (rest k hi)))
+      let (a, b) = and-parts (leb from d) (has x d) t in (
+        l,
+        leb-true from d a,
+        b,
+        λ k lo hi. ⊎-elim
+            (λ (z : leb from k ≡ false). absurd (both-ways (leb from k) z (le-leb from k lo)))
+            (λ (z : has x k ≡ false). z)
+            (and-cases (leb from k) (has x k) (rest k hi)),
+      )
 
   -- one member more
   pub walk-goes-on : (row new : List ℕ) (d : ℕ) (start : ℕ → Bool) (g : ℕ → ℕ → Bool) → length new ≡ 16 → next-from x from ≡ Some d
       → Row row (λ k. start k || some-below from (λ j. has x j && g j k)) → ((c : ℕ) → has new c ≡ (has row c || (ltb c 1024 && g d c)))
       → Row new (λ k. start k || some-below (d + 1) (λ j. has x j && g j k))
-  walk-goes-on row new d start g size h before put = (size, λ k.
-      let (l, lo, here, rest) = next-at d h in
-      let f : ℕ → Bool = λ j. has x j && g j k in
-      put k ∙ ap (λ z. z || (ltb k 1024 && g d k)) (before .1 k)
-      ∙ joined (ltb k 1024) (start k) (some-below from f) (g d k)
-      ∙ ap (λ z. ltb k 1024 && (start k || (some-below from f || (z && g d k)))) (sym here)
-      ∙ sym (ap (λ z. ltb k 1024 && (start k || z)) (some-more from d f lo (λ j a b. and-left (has x j) (g j k) (rest j a b)))))
+  walk-goes-on row new d start g size h before put = (
+    size,
+    λ k.
+        let (l, lo, here, rest) = next-at d h in
+        let f : ℕ → Bool = λ j. has x j && g j k in
+        put k ∙ ap (λ z. z || (ltb k 1024 && g d k)) (before .1 k)
+        ∙ joined (ltb k 1024) (start k) (some-below from f) (g d k)
+        ∙ ap (λ z. ltb k 1024 && (start k || (some-below from f || (z && g d k)))) (sym here)
+        ∙ sym (ap (λ z. ltb k 1024 && (start k || z)) (some-more from d f lo (λ j a b. and-left (has x j) (g j k) (rest j a b)))),
+  )
 
   -- no member more
   pub walk-ends : (row : List ℕ) (start : ℕ → Bool) (g : ℕ → ℕ → Bool) → from ≤ 1024 → next-from x from ≡ None
       → Row row (λ k. start k || some-below from (λ j. has x j && g j k)) → Row row (λ k. start k || some-below 1024 (λ j. has x j && g j k))
-  walk-ends row start g small h before = (before .0, λ k. before .1 k ∙ sym (ap (λ z. ltb k 1024 && (start k || z))
-      (some-rest from 1024 (λ j. has x j && g j k) small (λ j a b. and-left (has x j) (g j k) (none j a b)))))
+  walk-ends row start g small h before = (
+    before .0,
+    λ k. before .1 k ∙ sym (ap (λ z. ltb k 1024 && (start k || z))
+        (some-rest from 1024 (λ j. has x j && g j k) small (λ j a b. and-left (has x j) (g j k) (none j a b)))),
+  )
     where
       none : (j : ℕ) → from ≤ j → j < 1024 → has x j ≡ false
       none j lo hi = ⊎-elim

@@ -1,13 +1,13 @@
 ghost use Rattle.schemas.specs.House.{narrower};
-use schemas::conclusion::extended;
-use schemas::conclusion::nothing;
 use bits::has;
 use calculus::rule::Principals;
 use calculus::rule::Rule;
 use logic::concept::Concept;
+use schemas::conclusion::extended;
+use schemas::conclusion::nothing;
 use vocabulary::Vocabulary;
 
-// Rule 5: an "only" of the label gives the same with a role below.
+// Rule 5: p is in the label, "only R C", and q is "only S C", where S is below R. Conclusion: the label and q.
 #[derive(Drop)]
 pub struct NarrowerRule {}
 

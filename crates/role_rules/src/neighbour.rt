@@ -7,7 +7,6 @@ ghost use Rattle.labels.specs.Labels.{Row};
 ghost use Rattle.vocabulary.specs.Vocabularies.{axiom?};
 ghost use Rattle.schemas.specs.House.{passes, carries, gives, neighbour};
 ghost use Rattle.schemas.specs.Tests.{some-below};
-use schemas::conclusion::nothing;
 use bits::has;
 use bits::insert;
 use calculus::rule::Principals;
@@ -15,6 +14,7 @@ use calculus::rule::Rule;
 use labels::rows::cut_to;
 use labels::rows::next_from;
 use logic::concept::Concept;
+use schemas::conclusion::nothing;
 use vocabulary::Vocabulary;
 
 // Puts into the row the concept that concept `d` of a label passes to every neighbour by role `r`, if it does.
@@ -62,7 +62,8 @@ fn given(v: &Vocabulary, r: u16, c: u16, x: &[u64; 16]) -> [u64; 16]
     row
 }
 
-// Rule 10: a "some" of the label asks for a neighbour.
+// Rule 10: p is in the label, "some R C". Conclusion, of a neighbour by R: C; all D with "only R D" in the label; all "only S D" in the
+// label where R is below S and S is transitive; and all axioms.
 #[derive(Drop)]
 pub struct NeighbourRule {}
 

@@ -1,2 +1,4 @@
+// The ten rules as one bank.
+
 pub mod house;
 pub mod table;

@@ -26,9 +26,11 @@ loop-d-less c = let n = next-is (c .args .x .now) (c .loop-d .from) (c .in-Some 
 pub loop-d-again : need.loop-d-again
 loop-d-again c =
     let v = c .args .v .now in
-    let n = next-is (c .args .x .now) (c .loop-d .from) (c .in-Some .d) (sym (c .in-Some .ensures tt)) in
-    (omega arith, walk-goes-on (c .args .x .now) (c .loop-d .from) (c .loop-d .row) (c .give .last .row) (c .in-Some .d)
-        (λ k. eqb (c .args .c) k || axiom? v k) (λ j k. gives v (c .args .r) j k) (c .give .array-long) (sym (c .in-Some .ensures tt)) (c .loop-d .inv .1) (c .give .ensures))
+    let n = next-is (c .args .x .now) (c .loop-d .from) (c .in-Some .d) (sym (c .in-Some .ensures tt)) in (
+      omega arith,
+      walk-goes-on (c .args .x .now) (c .loop-d .from) (c .loop-d .row) (c .give .last .row) (c .in-Some .d)
+          (λ k. eqb (c .args .c) k || axiom? v k) (λ j k. gives v (c .args .r) j k) (c .give .array-long) (sym (c .in-Some .ensures tt)) (c .loop-d .inv .1) (c .give .ensures),
+    )
 
 pub returns : need.returns
 returns c =
