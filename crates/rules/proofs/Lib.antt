@@ -1,2 +1,0 @@
-pub mod Extending
-pub mod Walking

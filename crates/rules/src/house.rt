@@ -1,30 +1,30 @@
 ghost use Rattle.schemas.specs.House.{house};
-use crate::bottom::BottomIsRule;
-use crate::bottom::BottomRule;
-use crate::clash::ClashIsRule;
-use crate::clash::ClashRule;
-use crate::conjunction::ConjunctionIsRule;
-use crate::conjunction::ConjunctionRule;
-use crate::cut::CutIsRule;
-use crate::cut::CutRule;
-use crate::disjunction::DisjunctionIsRule;
-use crate::disjunction::DisjunctionRule;
-use crate::general::GeneralIsRule;
-use crate::general::GeneralRule;
-use crate::inverse_cut::InverseCutIsRule;
-use crate::inverse_cut::InverseCutRule;
-use crate::narrower::NarrowerIsRule;
-use crate::narrower::NarrowerRule;
-use crate::neighbour::NeighbourIsRule;
-use crate::neighbour::NeighbourRule;
-use crate::transitive_cut::TransitiveCutIsRule;
-use crate::transitive_cut::TransitiveCutRule;
 use calculus::bank::Bank;
 use calculus::bank::Pair;
 use calculus::bank::PairBank;
 use calculus::bank::Single;
 use calculus::bank::SingleBank;
 use calculus::rule::Principals;
+use cut_rules::cut::CutIsRule;
+use cut_rules::cut::CutRule;
+use cut_rules::inverse_cut::InverseCutIsRule;
+use cut_rules::inverse_cut::InverseCutRule;
+use cut_rules::transitive_cut::TransitiveCutIsRule;
+use cut_rules::transitive_cut::TransitiveCutRule;
+use local_rules::bottom::BottomIsRule;
+use local_rules::bottom::BottomRule;
+use local_rules::clash::ClashIsRule;
+use local_rules::clash::ClashRule;
+use local_rules::conjunction::ConjunctionIsRule;
+use local_rules::conjunction::ConjunctionRule;
+use local_rules::disjunction::DisjunctionIsRule;
+use local_rules::disjunction::DisjunctionRule;
+use local_rules::general::GeneralIsRule;
+use local_rules::general::GeneralRule;
+use role_rules::narrower::NarrowerIsRule;
+use role_rules::narrower::NarrowerRule;
+use role_rules::neighbour::NeighbourIsRule;
+use role_rules::neighbour::NeighbourRule;
 use vocabulary::Vocabulary;
 
 // Rules 1 to 5 and rules 6 to 10, side by side. The nesting is balanced, since a proof about a bank costs more the deeper it is.
@@ -51,7 +51,9 @@ impl House {
             rules: Pair {
                 left: Pair {
                     left: Pair {
-                        left: Single { rule: BottomRule {} },
+                        left: Single {
+                            rule: BottomRule {},
+                        },
                         right: Single { rule: ClashRule {} },
                     },
                     right: Pair {
@@ -62,13 +64,17 @@ impl House {
                             left: Single {
                                 rule: DisjunctionRule {},
                             },
-                            right: Single { rule: NarrowerRule {} },
+                            right: Single {
+                                rule: NarrowerRule {},
+                            },
                         },
                     },
                 },
                 right: Pair {
                     left: Pair {
-                        left: Single { rule: GeneralRule {} },
+                        left: Single {
+                            rule: GeneralRule {},
+                        },
                         right: Single { rule: CutRule {} },
                     },
                     right: Pair {

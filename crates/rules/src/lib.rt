@@ -1,13 +1,4 @@
-pub mod bottom;
-pub mod clash;
-pub mod conclusion;
-pub mod conjunction;
-pub mod cut;
-pub mod disjunction;
-pub mod general;
+// The ten rules as one bank.
+
 pub mod house;
-pub mod inverse_cut;
-pub mod narrower;
-pub mod neighbour;
 pub mod table;
-pub mod transitive_cut;

@@ -84,8 +84,8 @@ module _ (v : Vocabulary) (keeps : Kept v) (on : Principals) (x : List ℕ) wher
       let (under, z) = and-parts (below? (v .roles) (first-of j) (first-of k)) (eqb (on .s) 0) r3 in
       let e = eqb-true (second-of k) (second-of j) same in
       no-s 5 z (narrower i (tagged-at v (on .p) 6 p-is)
-          (subst (λ (c : ℕ). At (concepts v) (on .q) (Only (first-of j) c)) (sym e) (tagged-at v (on .q) 6 q-is))
-          (true-below v keeps (first-of j) (first-of k) under))
+      (subst (λ (c : ℕ). At (concepts v) (on .q) (Only (first-of j) c)) (sym e) (tagged-at v (on .q) 6 q-is))
+      (true-below v keeps (first-of j) (first-of k) under))
 
   pub takes-6 : general-rule .applies v on x ≡ true → Takes 6
   takes-6 h = let (a, z) = and-parts (axiom? v (on .p)) (p-alone on) h in no-q-s 6 z (general (true-axiom v keeps (on .p) a))
@@ -103,8 +103,8 @@ module _ (v : Vocabulary) (keeps : Kept v) (on : Principals) (x : List ℕ) wher
       let (d-is, r2) = and-parts (tagged 7 j) _ r1 in
       let (back, same) = and-parts (eqb (first-of j) (inverse (first-of k))) (eqb (second-of j) (on .q)) r2 in
       inverse-cut (true-mates (v .mates) (on .p) (on .q) m) (tagged-at v (on .s) 6 s-is)
-          (subst (λ (r : ℕ). At (concepts v) d (Exists r (on .q))) (eqb-true (first-of j) (inverse (first-of k)) back)
-          (subst (λ (c : ℕ). At (concepts v) d (Exists (first-of j) c)) (eqb-true (second-of j) (on .q) same) (tagged-at v d 7 d-is)))
+      (subst (λ (r : ℕ). At (concepts v) d (Exists r (on .q))) (eqb-true (first-of j) (inverse (first-of k)) back)
+      (subst (λ (c : ℕ). At (concepts v) d (Exists (first-of j) c)) (eqb-true (second-of j) (on .q) same) (tagged-at v d 7 d-is)))
 
   pub takes-9 : transitive-cut-rule .applies v on x ≡ true → Takes 9
   takes-9 h =
@@ -116,8 +116,8 @@ module _ (v : Vocabulary) (keeps : Kept v) (on : Principals) (x : List ℕ) wher
       let (s-is, r3) = and-parts (tagged 6 j) _ r2 in
       let (back, same) = and-parts (eqb (first-of j) (inverse (first-of k))) (eqb (second-of j) (on .q)) r3 in
       transitive-cut (true-mates (v .mates) (on .p) (on .q) m) (tagged-at v (on .p) 6 p-is) (true-transitive v keeps (first-of k) t)
-          (subst (λ (r : ℕ). At (concepts v) (on .s) (Only r (on .q))) (eqb-true (first-of j) (inverse (first-of k)) back)
-          (subst (λ (c : ℕ). At (concepts v) (on .s) (Only (first-of j) c)) (eqb-true (second-of j) (on .q) same) (tagged-at v (on .s) 6 s-is)))
+      (subst (λ (r : ℕ). At (concepts v) (on .s) (Only r (on .q))) (eqb-true (first-of j) (inverse (first-of k)) back)
+      (subst (λ (c : ℕ). At (concepts v) (on .s) (Only (first-of j) c)) (eqb-true (second-of j) (on .q) same) (tagged-at v (on .s) 6 s-is)))
 
   pub takes-10 : neighbour-rule .applies v on x ≡ true → Takes 10
   takes-10 h = one-tagged 10 7 h (λ i k. neighbour i (tagged-at v (on .p) 7 k))

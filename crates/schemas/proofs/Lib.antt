@@ -5,3 +5,4 @@ pub mod FromTests
 pub mod ToTests
 pub mod Agreement
 pub mod HouseLaws
+pub mod Extending

@@ -22,7 +22,7 @@ abbrev pub second-of : Option Concept → ℕ
 second-of None = 0
 second-of (Some k) = second k
 
--- the step names p alone; p and q alone
+-- the step names p alone
 abbrev pub p-alone : Principals → Bool
 p-alone on = eqb (on .q) 0 && eqb (on .s) 0
 

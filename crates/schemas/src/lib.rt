@@ -1,3 +1,5 @@
+pub mod conclusion;
+
 ghost use Rattle.calculus.specs.Calculi.{LawfulCalculus};
 ghost use Rattle.schemas.specs.House.{house};
 ghost use Rattle.schemas.specs.Laws.{HouseIsTheTable};

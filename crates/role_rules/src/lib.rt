@@ -1,0 +1,4 @@
+// The rules that follow a role: 5 and 10.
+
+pub mod narrower;
+pub mod neighbour;
