@@ -4,11 +4,14 @@ ghost use Rattle.std.specs.Vec.{made};
 use book::line::Cited;
 use book::line::Line;
 use book::line::Step;
+use calculus::rule::Principals;
 use docket::Docket;
 use intake::Reply;
 use intake::show::ReplyDisplay;
 use intake::take_file;
 use logic::concept::Concept;
+use rules::house::HouseBank;
+use rules::table::house;
 use std::error::AnyError;
 use std::io;
 use std::io::Read;
@@ -22,6 +25,9 @@ const RECORDS: usize = 4096;
 const CONCEPTS: usize = 256;
 
 const LINES: usize = 256;
+
+// Four words for each concept.
+const ROWS: usize = 1024;
 
 // Reads until the buffer is full or the input ends, and answers how many bytes came.
 fn fill(input: &mut impl Read, buffer: &mut [u8]) -> io::Result<usize>
@@ -38,37 +44,30 @@ fn fill(input: &mut impl Read, buffer: &mut [u8]) -> io::Result<usize>
     Ok(filled)
 }
 
-// Reads a dossier, hands it to a new docket and prints the reply to each record.
+// A place for a line that no line has taken.
+fn blank_line() -> Line {
+    Line { step: Step { rule: 0, on: Principals { p: 0, q: 0, s: 0 }, cited: Cited::Nothing }, label: [0; 16] }
+}
+
+// Reads a dossier, hands it to a new docket with the ten rules, and prints the reply to each record and the tally.
 fn run(rt: &LibcRuntime) -> Result<(), AnyError> {
     let mut buffer = [0; LIMIT];
     let filled = fill(&mut rt.stdin(), &mut buffer)?;
     let mut concepts = [Concept::Top; CONCEPTS];
-    let blank = Line {
-        step: Step {
-            rule: 0,
-            p: 0,
-            q: 0,
-            s: 0,
-            cited: Cited::Nothing,
-        },
-        label: [0; 16],
-    };
-    let mut lines = [blank; LINES];
-    let mut replies = [Reply {
-        kind: 0,
-        answer: Ok(0),
-    }; RECORDS];
+    let mut lines = [blank_line(); LINES];
+    let mut rows = [0; ROWS];
+    let mut replies = [Reply { kind: 0, answer: Ok(0) }; RECORDS];
     let Ok(mut docket) = Docket::open(CONCEPTS, LINES, &mut concepts, &mut lines) else {
         return Err("no docket of these capacities".into());
     };
-    let Ok(count) = take_file(&mut docket, &buffer[0..filled], &mut replies) else {
+    let Ok(count) = take_file(&mut docket, &house(), &buffer[0..filled], &mut rows, &mut replies) else {
         return Err("more records than replies".into());
     };
     for (i, reply) in replies[0..count].iter().enumerate() {
         println!(rt, "{} {}", i + 1, reply)?;
     }
-    // No call files a claim yet, so that none is open, empty or inhabited.
-    println!(rt, "end 0 0 0")?;
+    let (open, empty, inhabited) = docket.tally();
+    println!(rt, "end {open} {empty} {inhabited}")?;
     Ok(())
 }
 
