@@ -7,3 +7,4 @@ pub mod Interleaving
 pub mod Steady
 pub mod Taking
 pub mod ProperBanks
+pub mod HouseProper

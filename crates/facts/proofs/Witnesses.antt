@@ -1,9 +1,9 @@
 -- Every inhabited claim has a witness: a model closed it, and since then no axiom was filed.
-use mathlib.Core.Bool.{Bool, true, false, not}
+use mathlib.Core.Bool.{true, not}
 use mathlib.Core.List.{List, [], _∷_, _++_, List·Memᴰ}
 use mathlib.Core.Logic.{⊎-elim}
 use mathlib.Core.Path.{_≡_, refl, sym, subst, ap, _∙_}
-use Prim.Native.Nat.{ℕ, _+_, _<_, _≤_}
+use Prim.Native.Nat.{ℕ, _<_, _≤_}
 use native.Mathlib.Omega.{arith}
 use lib.ListN.{length, getD, set, length-set, length-append}
 use Rattle.std.specs.declared.option.Option.{Option}
@@ -11,10 +11,10 @@ use Rattle.std.specs.declared.option.Option.the-variants.{Some, None}
 use Rattle.std.specs.declared.result.Result.{Result}
 use Rattle.std.specs.declared.result.Result.the-variants.{Ok, Err}
 use Rattle.std.proofs.shelf.Lists.{getD-append-left, getD-push, length-push, getD-set-same, getD-set-other}
-use Rattle.std.proofs.shelf.Tests.{cases-lt, cases-eq, both-ways}
+use Rattle.std.proofs.shelf.Tests.{cases-lt, cases-eq}
 use Rattle.refusals.specs.declared.Refusal.{Refusal}
 use Rattle.refusals.specs.declared.Refusal.the-variants.{Phase as WrongPhase}
-use Rattle.refusals.specs.Checks.{with, first}
+use Rattle.refusals.specs.Checks.{with}
 use Rattle.refusals.proofs.Clearing.{clear, when-none, not-false}
 use Rattle.bits.specs.Bits.{has}
 use Rattle.labels.specs.Labels.{row, absent-at}
@@ -38,9 +38,8 @@ use Rattle.claims.specs.Claiming.{filed, blank, claim-at}
 use Rattle.docket.specs.declared.Docket.{Docket}
 use Rattle.docket.specs.declared.phase.Phase.{Phase}
 use Rattle.docket.specs.declared.phase.Phase.the-variants.{Open, Sealed}
-use Rattle.docket.specs.declared.phase.Kind.the-variants.{Claim as ClaimKind}
 use Rattle.docket.specs.Phases.{is-open, admits}
-use Rattle.docket.specs.Dockets.{Fresh, count}
+use Rattle.docket.specs.Dockets.{count}
 use Rattle.docket.specs.Calls.{Call, inclusion, transitivity, concept, pair, general, seal, line, claim, close-empty, close-inhabited, kind-of, all-rows, refusal, Acts}
 use Rattle.docket.specs.Runs.{Reached, began, called}
 use Rattle.docket.proofs.Reaching.{reached-kept}
