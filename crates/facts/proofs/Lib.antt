@@ -8,3 +8,4 @@ pub mod Steady
 pub mod Taking
 pub mod ProperBanks
 pub mod HouseProper
+pub mod HouseTrees
