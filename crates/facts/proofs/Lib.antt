@@ -9,3 +9,4 @@ pub mod Taking
 pub mod ProperBanks
 pub mod HouseProper
 pub mod HouseTrees
+pub mod ThreeFacts
