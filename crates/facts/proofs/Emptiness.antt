@@ -26,7 +26,7 @@ use Rattle.book.specs.Drafts.{members, label, line-of, Admitted}
 use Rattle.book.proofs.Admitting.{admitted}
 use Rattle.docket.specs.declared.Docket.{Docket}
 use Rattle.docket.specs.Dockets.{Fresh, count, lines}
-use Rattle.docket.specs.Calls.{Call, inclusion, transitivity, concept, pair, general, seal, line, all-rows, rows, Acts}
+use Rattle.docket.specs.Calls.{Call, inclusion, transitivity, concept, pair, general, seal, line, claim, close-empty, close-inhabited, all-rows, rows, Acts}
 use Rattle.docket.specs.Runs.{Lent, Reached, began, called}
 use Rattle.docket.proofs.Reaching.{reached-kept}
 use Rattle.facts.specs.Lines.{Empty, LinesAreEmpty}
@@ -93,6 +93,9 @@ acts-invariant seal d e (Ok i) lent kept h s = grown-invariant d e kept (grown-s
 acts-invariant (line k f) d e (Ok i) lent kept h s =
     let r = cleared (rows (line k f) d) (clear (all-rows (line k f) d) (h .0) .1) in
     line-invariant k lent f d kept s (admitted k (d .vocabulary) (lines d) (room (d .book)) f r) e (h .1 .0 .3) (h .1 .1)
+acts-invariant (claim ms) d e (Ok i) lent kept h s = grown-invariant d e kept (grown-same (d .vocabulary) (e .vocabulary) (h .1 .1)) (h .1 .2) s
+acts-invariant (close-empty c n) d e (Ok i) lent kept h s = grown-invariant d e kept (grown-same (d .vocabulary) (e .vocabulary) (h .1 .2)) (h .1 .3) s
+acts-invariant (close-inhabited c m old new) d e (Ok i) lent kept h s = grown-invariant d e kept (grown-same (d .vocabulary) (e .vocabulary) (h .1 .2)) (h .1 .3) s
 
 fresh-invariant : (d : Docket) → Fresh d → Invariant d
 fresh-invariant d f = record {

@@ -31,7 +31,7 @@ pub grown-count : (v w : Vocabulary) → Grown v w → length (concepts v) ≤ l
 grown-count v w g = omega (arith, ap length (g .concepts-more), length-append (concepts v) (g .more))
 
 -- the same concepts
-none-more : (v w : Vocabulary) → w .concepts ≡ v .concepts → concepts w ≡ concepts v ++ []
+pub none-more : (v w : Vocabulary) → w .concepts ≡ v .concepts → concepts w ≡ concepts v ++ []
 none-more v w e = ap entries e ∙ sym (append-nil (concepts v))
 
 pub grown-same : (v w : Vocabulary) → w ≡ v → Grown v w

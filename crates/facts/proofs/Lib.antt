@@ -2,7 +2,11 @@ pub mod Licences
 pub mod Growing
 pub mod Members
 pub mod Emptiness
+pub mod Witnesses
 pub mod Interleaving
 pub mod Steady
 pub mod Taking
 pub mod ProperBanks
+pub mod HouseProper
+pub mod HouseTrees
+pub mod ThreeFacts

@@ -1,4 +1,4 @@
--- Pairs, seals, lines and refused calls: what they leave as it was.
+-- Pairs, seals, lines, closings and refused calls: what they leave as it was.
 use mathlib.Core.Bool.{true}
 use mathlib.Core.List.{List, [], _∷_, _++_, append-nil, append-assoc}
 use mathlib.Core.Logic.{inl, inr}
@@ -23,14 +23,14 @@ use Rattle.book.specs.Drafts.{line-of}
 use Rattle.docket.specs.declared.Docket.{Docket}
 use Rattle.docket.specs.declared.phase.Phase.the-variants.{Sealed}
 use Rattle.docket.specs.Dockets.{lines}
-use Rattle.docket.specs.Calls.{Call, inclusion, transitivity, concept, pair, general, seal, line, Acts}
+use Rattle.docket.specs.Calls.{Call, inclusion, transitivity, concept, pair, general, seal, line, claim, close-empty, close-inhabited, Acts}
 use Rattle.facts.specs.Events.{Event, Ran, Each, NothingFiled}
 use Rattle.facts.specs.Trees.{Node, Tree, leaf, one, two, root, Applied, Carries, Closed}
 use Rattle.facts.specs.Proper.{Proper}
 use Rattle.facts.specs.Filing.{Taken, StandsWith}
 use Rattle.facts.proofs.Interleaving.{sum}
 
--- a pair, a seal, a line, or refused
+-- a pair, a seal, a line, a closing, or refused
 abbrev pub Steady : Call → Result ℕ Refusal → Type 0
 Steady c (Err x) = Unit {0}
 Steady (inclusion r s) (Ok i) = ⊥
@@ -40,6 +40,9 @@ Steady (pair a b) (Ok i) = Unit {0}
 Steady (general c) (Ok i) = ⊥
 Steady seal (Ok i) = Unit {0}
 Steady (line k f) (Ok i) = Unit {0}
+Steady (claim ms) (Ok i) = ⊥
+Steady (close-empty c n) (Ok i) = Unit {0}
+Steady (close-inhabited c m old new) (Ok i) = Unit {0}
 
 abbrev pub IsSteady : Event → Type 0
 IsSteady x = Steady (x .call) (x .answer)
@@ -54,6 +57,9 @@ taken (pair a b) (Ok i) = 0
 taken (general c) (Ok i) = 0
 taken seal (Ok i) = 0
 taken (line k f) (Ok i) = 1
+taken (claim ms) (Ok i) = 0
+taken (close-empty c n) (Ok i) = 0
+taken (close-inhabited c m old new) (Ok i) = 0
 
 abbrev pub weight : Event → ℕ
 weight x = taken (x .call) (x .answer)
@@ -67,6 +73,9 @@ at-most-one (pair a b) (Ok i) = omega arith
 at-most-one (general c) (Ok i) = omega arith
 at-most-one seal (Ok i) = omega arith
 at-most-one (line k f) (Ok i) = omega arith
+at-most-one (claim ms) (Ok i) = omega arith
+at-most-one (close-empty c n) (Ok i) = omega arith
+at-most-one (close-inhabited c m old new) (Ok i) = omega arith
 
 pub weight-small : (x : Event) → weight x ≤ 1
 weight-small x = at-most-one (x .call) (x .answer)
@@ -86,6 +95,10 @@ nothing-steady (general c) (Ok i) (inr h) = absurd h
 nothing-steady seal (Ok i) h = (tt, refl)
 nothing-steady (line k f) (Ok i) (inl h) = absurd h
 nothing-steady (line k f) (Ok i) (inr h) = absurd h
+nothing-steady (claim ms) (Ok i) (inl h) = absurd h
+nothing-steady (claim ms) (Ok i) (inr h) = absurd h
+nothing-steady (close-empty c n) (Ok i) h = (tt, refl)
+nothing-steady (close-inhabited c m old new) (Ok i) h = (tt, refl)
 
 pub all-nothing : (xs : List Event) → Each NothingFiled xs → Each IsSteady xs × (sum weight xs ≡ 0)
 all-nothing [] h = (tt, refl)
@@ -150,6 +163,11 @@ module _ (k : Calculus) (proper : Proper k) where
     few = omega (arith, ap (λ r. length (entries r)) b);
   }
 
+  -- and the same vocabulary
+  later-same : (d e : Docket) → Kept (d .vocabulary) → e .phase ≡ Sealed → e .vocabulary ≡ d .vocabulary → e .book ≡ d .book → Later 0 d e
+  later-same d e kept sealed words =
+      later-book d e (record { kept = subst Kept (sym words) kept; sealed = sealed }) (λ t. subst (λ (v : Vocabulary). Closed k v t) (sym words))
+
   pub acts-later : (c : Call) (a : Result ℕ Refusal) (d e : Docket) → Steady c a → Good d → Acts c d a e → Later (taken c a) d e
   acts-later c (Err x) d e s g h = subst (Later 0 d) (sym (h .1)) (later-self d g)
   acts-later (inclusion r q) (Ok i) d e s g h = absurd s
@@ -160,9 +178,7 @@ module _ (k : Calculus) (proper : Proper k) where
       (record { kept = kept-pair (d .vocabulary) (e .vocabulary) x y (h .1 .0) (g .kept); sealed = h .2 ∙ g .sealed })
       (closed-pair (d .vocabulary) (e .vocabulary) x y (g .kept) (h .1 .0)) (h .1 .2)
   acts-later (general x) (Ok i) d e s g h = absurd s
-  acts-later seal (Ok i) d e s g h =
-      later-book d e (record { kept = subst Kept (sym (h .1 .0)) (g .kept); sealed = h .2 })
-      (λ t. subst (λ (v : Vocabulary). Closed k v t) (sym (h .1 .0))) (h .1 .2)
+  acts-later seal (Ok i) d e s g h = later-same d e (g .kept) (h .2) (h .1 .0) (h .1 .2)
   acts-later (line j f) (Ok i) d e s g h = record {
     good = record { kept = subst Kept (sym (h .1 .1)) (g .kept); sealed = h .2 ∙ g .sealed };
     closed = λ t. subst (λ (v : Vocabulary). Closed k v t) (sym (h .1 .1));
@@ -171,6 +187,9 @@ module _ (k : Calculus) (proper : Proper k) where
     lines-more = h .1 .0 .3;
     few = omega (arith, ap length (h .1 .0 .3), length-push (lines d) (line-of j f));
   }
+  acts-later (claim ms) (Ok i) d e s g h = absurd s
+  acts-later (close-empty x n) (Ok i) d e s g h = later-same d e (g .kept) (h .2 ∙ g .sealed) (h .1 .2) (h .1 .3)
+  acts-later (close-inhabited x m old new) (Ok i) d e s g h = later-same d e (g .kept) (h .2 ∙ g .sealed) (h .1 .2) (h .1 .3)
 
   pub run-later : (xs : List Event) (d e : Docket) → Each IsSteady xs → Good d → Ran d xs e → Later (sum weight xs) d e
   run-later [] d e s g r = subst (Later 0 d) (sym r) (later-self d g)

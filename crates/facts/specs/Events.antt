@@ -7,7 +7,7 @@ use Rattle.std.specs.declared.result.Result.{Result}
 use Rattle.std.specs.declared.result.Result.the-variants.{Ok, Err}
 use Rattle.refusals.specs.declared.Refusal.{Refusal}
 use Rattle.docket.specs.declared.Docket.{Docket}
-use Rattle.docket.specs.Calls.{Call, inclusion, transitivity, concept, pair, general, seal, line, Acts}
+use Rattle.docket.specs.Calls.{Call, inclusion, transitivity, concept, pair, general, seal, line, claim, close-empty, close-inhabited, Acts}
 
 -- a call and its answer: a number, or a refusal
 pub record Event : Type 0 where
@@ -39,6 +39,9 @@ FilesNothing (pair a b) = Unit {0}
 FilesNothing (general c) = ⊥
 FilesNothing seal = Unit {0}
 FilesNothing (line k f) = ⊥
+FilesNothing (claim ms) = ⊥
+FilesNothing (close-empty c n) = Unit {0}
+FilesNothing (close-inhabited c m old new) = Unit {0}
 
 abbrev pub IsRefusal : Result ℕ Refusal → Type 0
 IsRefusal (Ok i) = ⊥

@@ -1,14 +1,11 @@
-ghost use Rattle.facts.specs.Lines.{LinesAreEmpty};
+ghost use Rattle.facts.specs.Facts.{ThreeFacts};
 ghost use Rattle.facts.specs.Filing.{ClosedTreesAreTaken};
 
-// Theorems of every docket that is reached. A call of one does nothing; that it is proved says that the theorem holds.
-
-// No standing line's label is inhabited.
-pub fn lines_are_empty()
-    ensures { λ _. ⌜ LinesAreEmpty ⌝ }
-{}
-
-// Every closed tree for which there is room is taken, in every order that puts children before their parents.
-pub fn closed_trees_are_taken()
-    ensures { λ _. ⌜ ClosedTreesAreTaken ⌝ }
+// THE THREE FACTS of every docket that is reached: no standing line's label is inhabited; where a claim is inhabited, no
+// standing line's label lies within its label; and every tree that is closed by the table of rules, and for which there is
+// room, is taken. The last holds of every lawful calculus of proper rules.
+// A call does nothing; that it is proved says that the facts hold.
+pub fn three_facts_hold()
+    ensures facts { λ _. ⌜ ThreeFacts ⌝ }
+    ensures every_calculus { λ _. ⌜ ClosedTreesAreTaken ⌝ }
 {}
