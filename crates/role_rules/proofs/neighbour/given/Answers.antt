@@ -1,6 +1,7 @@
 use native.Mathlib.Omega.{arith}
 use mathlib.Core.Bool.{_&&_, _||_}
-use mathlib.Core.Path.{_≡_, sym, subst, _∙_}
+use mathlib.Core.List.{List}
+use mathlib.Core.Path.{_≡_, sym, subst, ap, _∙_}
 use Prim.Native.Nat.{ℕ}
 use lib.Dec.{eqb}
 use lib.ListN.{length}
@@ -13,8 +14,9 @@ use Rattle.role_rules.proofs.neighbour.given.Needs as need
 pub loop-d-holds : need.loop-d-holds
 loop-d-holds c =
     let v = c .args .v .now in
-    let e : c .insert .last .row ≡ inserted (v .axioms .row) (c .args .c) = simp (c .axiom-row-row .ensures) at (c .insert .ensures) in
-    let size : length (v .axioms .row) ≡ 16 = simp (c .axiom-row-row .ensures) at (let s : length (c .axiom-row-row .result) ≡ 16 = omega arith in s) in
+    let e : c .insert .last .row ≡ inserted (v .axioms .row) (c .args .c) = c .insert .ensures ∙ ap (λ r. inserted r (c .args .c)) (c .axiom-row-row .ensures) in
+    let before : length (c .axiom-row-row .result) ≡ 16 = omega arith in
+    let size = subst (λ (r : List ℕ). length r ≡ 16) (c .axiom-row-row .ensures) before in
     (omega arith, walk-starts (v .axioms .row) (c .insert .last .row) (c .args .c) (λ k j. has (c .args .x .now) j && gives v (c .args .r) j k) size (omega arith) e)
 
 pub add-from : need.add-from
