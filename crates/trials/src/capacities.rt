@@ -83,8 +83,9 @@ fn takes(capacity: u16, memory: &mut [Concept], lines: &mut [Line]) -> Result<()
             (4, 0, capacity, Err((4, 2))),
             (6, 0, capacity, Err((4, 2))),
         ] {
-            check_eq(told(docket.file_concept(tag, a, b)), said)
-                .note(format_args!("concept {tag} {a} {b} of {capacity}, {sealed}"))?;
+            check_eq(told(docket.file_concept(tag, a, b)), said).note(format_args!(
+                "concept {tag} {a} {b} of {capacity}, {sealed}"
+            ))?;
         }
         // the last concept stands
         check_eq(told(docket.mate(last)), Ok(None))?;

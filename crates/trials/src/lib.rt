@@ -2,6 +2,8 @@
 #[cfg(test)]
 mod capacities;
 #[cfg(test)]
+mod damage;
+#[cfg(test)]
 mod desk;
 #[cfg(test)]
 mod files;
@@ -13,5 +15,7 @@ mod opening;
 mod pairing;
 #[cfg(test)]
 mod phases;
+#[cfg(test)]
+mod places;
 #[cfg(test)]
 mod roles;

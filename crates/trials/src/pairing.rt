@@ -44,98 +44,134 @@ const CONCEPTS: [(u16, u16, u16); 26] = [
 
 const NO: Said<usize> = Err((7, 0));
 
-// Pairings in this order; either of the two may come first.
-const PAIRINGS: [(u16, u16, Said<usize>); 50] = [
-    // a concept with itself
-    (0, 0, NO),
-    (1, 1, NO),
-    (4, 4, NO),
-    (8, 8, NO),
-    (14, 14, NO),
-    // of one tag, or of tags that don't go together
-    (0, 2, NO),
-    (1, 3, NO),
-    (4, 6, NO),
-    (5, 7, NO),
-    (0, 4, NO),
-    (0, 5, NO),
-    (1, 4, NO),
-    (1, 5, NO),
-    (8, 20, NO),
-    (9, 13, NO),
-    (14, 19, NO),
-    (15, 16, NO),
-    (8, 14, NO),
-    (8, 15, NO),
-    (9, 14, NO),
-    (9, 15, NO),
-    (4, 9, NO),
-    (5, 8, NO),
-    (0, 9, NO),
-    // different names
-    (4, 7, NO),
-    (6, 5, NO),
-    // parts that aren't mates yet
-    (8, 9, NO),
-    (14, 15, NO),
-    (23, 24, NO),
-    (0, 1, Ok(0)),
-    // the first parts are mates, the second aren't
-    (8, 9, NO),
-    (4, 5, Ok(0)),
-    // mates already, both or one
-    (0, 1, NO),
-    (0, 3, NO),
-    (2, 1, NO),
-    (4, 5, NO),
-    // parts crossed over; second parts that aren't mates; first parts that aren't; equal parts
-    (8, 10, NO),
-    (8, 11, NO),
-    (8, 12, NO),
-    (8, 13, NO),
-    (8, 9, Ok(0)),
-    // another role; parts that aren't mates; equal parts
-    (14, 16, NO),
-    (14, 17, NO),
-    (14, 18, NO),
-    (14, 15, Ok(0)),
-    // mates in the other order of tags
-    (19, 18, Ok(0)),
-    (21, 22, Ok(0)),
-    (23, 24, Ok(0)),
-    (7, 6, Ok(0)),
-    (2, 3, Ok(0)),
-];
+// Pairings one after the other; with `turned` the second concept comes first.
+fn as_said(
+    docket: &mut Docket,
+    turned: bool,
+    rows: &[(u16, u16, Said<usize>)],
+) -> Result<(), Fail> {
+    for (c, d, said) in rows {
+        let answer = if turned {
+            docket.pair(*d, *c)
+        } else {
+            docket.pair(*c, *d)
+        };
+        check_eq(told(answer), *said).note(format_args!("pair {c} {d}"))?;
+    }
+    Ok(())
+}
 
-// The mate of each concept behind all pairings.
-const MATES: [Option<u16>; 26] = [
-    Some(1),
-    Some(0),
-    Some(3),
-    Some(2),
-    Some(5),
-    Some(4),
-    Some(7),
-    Some(6),
-    Some(9),
-    Some(8),
-    None,
-    None,
-    None,
-    None,
-    Some(15),
-    Some(14),
-    None,
-    None,
-    Some(19),
-    Some(18),
-    None,
-    Some(22),
-    Some(21),
-    Some(24),
-    Some(23),
-    None,
-];
+// A concept with itself, and concepts of one tag.
+fn alike(docket: &mut Docket, turned: bool) -> Result<(), Fail> {
+    as_said(
+        docket,
+        turned,
+        &[
+            (0, 0, NO),
+            (1, 1, NO),
+            (4, 4, NO),
+            (8, 8, NO),
+            (14, 14, NO),
+            (0, 2, NO),
+            (1, 3, NO),
+            (4, 6, NO),
+            (5, 7, NO),
+            (8, 20, NO),
+            (9, 13, NO),
+            (14, 19, NO),
+            (15, 16, NO),
+        ],
+    )
+}
+
+// Concepts of tags that don't go together.
+fn unlike(docket: &mut Docket, turned: bool) -> Result<(), Fail> {
+    as_said(
+        docket,
+        turned,
+        &[
+            (0, 4, NO),
+            (0, 5, NO),
+            (1, 4, NO),
+            (1, 5, NO),
+            (8, 14, NO),
+            (8, 15, NO),
+            (9, 14, NO),
+            (9, 15, NO),
+            (4, 9, NO),
+            (5, 8, NO),
+            (0, 9, NO),
+        ],
+    )
+}
+
+// Different names, and parts that aren't mates yet, first or second; and mates that are so already, both or one.
+fn too_early_and_too_late(docket: &mut Docket, turned: bool) -> Result<(), Fail> {
+    as_said(
+        docket,
+        turned,
+        &[
+            (4, 7, NO),
+            (6, 5, NO),
+            (8, 9, NO),
+            (14, 15, NO),
+            (23, 24, NO),
+            (0, 1, Ok(0)),
+            (8, 9, NO),
+            (4, 5, Ok(0)),
+            (0, 1, NO),
+            (0, 3, NO),
+            (2, 1, NO),
+            (4, 5, NO),
+        ],
+    )
+}
+
+// Parts crossed over, second or first parts that aren't mates, equal parts, and another role, each before what can be paired.
+fn parts(docket: &mut Docket, turned: bool) -> Result<(), Fail> {
+    as_said(
+        docket,
+        turned,
+        &[
+            (8, 10, NO),
+            (8, 11, NO),
+            (8, 12, NO),
+            (8, 13, NO),
+            (8, 9, Ok(0)),
+            (14, 16, NO),
+            (14, 17, NO),
+            (14, 18, NO),
+            (14, 15, Ok(0)),
+            (19, 18, Ok(0)),
+            (21, 22, Ok(0)),
+            (23, 24, Ok(0)),
+            (7, 6, Ok(0)),
+            (2, 3, Ok(0)),
+        ],
+    )
+}
+
+// The mates behind all pairings, and the concepts that have none.
+fn mates(docket: &Docket) -> Result<(), Fail> {
+    for (c, d) in [
+        (0, 1),
+        (2, 3),
+        (4, 5),
+        (6, 7),
+        (8, 9),
+        (14, 15),
+        (18, 19),
+        (21, 22),
+        (23, 24),
+    ] {
+        check_eq(told(docket.mate(c)), Ok(Some(d)))?;
+        check_eq(told(docket.mate(d)), Ok(Some(c)))?;
+    }
+    for c in [10, 11, 12, 13, 16, 17, 20, 25] {
+        check_eq(told(docket.mate(c)), Ok(None))?;
+    }
+    Ok(())
+}
 
 // Concepts that don't stand, where 26 do.
 fn absent_refused(docket: &mut Docket) -> Result<(), Fail> {
@@ -155,8 +191,8 @@ fn absent_refused(docket: &mut Docket) -> Result<(), Fail> {
 fn file_all(docket: &mut Docket) -> Result<(), Fail> {
     check_eq(told(docket.pair(0, 0)), Err((4, 0)))?;
     check_eq(told(docket.mate(0)), Err((4, 0)))?;
-    for (c, (tag, a, b)) in CONCEPTS.into_iter().enumerate() {
-        check_eq(told(docket.file_concept(tag, a, b)), Ok(c))?;
+    for (c, (tag, a, b)) in CONCEPTS.iter().enumerate() {
+        check_eq(told(docket.file_concept(*tag, *a, *b)), Ok(c))?;
     }
     for c in 0..26 {
         check_eq(told(docket.mate(c)), Ok(None))?;
@@ -164,29 +200,27 @@ fn file_all(docket: &mut Docket) -> Result<(), Fail> {
     absent_refused(docket)
 }
 
-fn pair_all(docket: &mut Docket, turned: bool) -> Result<(), Fail> {
-    for (c, d, said) in PAIRINGS {
-        let answer = if turned { docket.pair(d, c) } else { docket.pair(c, d) };
-        check_eq(told(answer), said).note(format_args!("pair {c} {d}, turned: {turned}"))?;
+fn pairings_in(sealed: bool, turned: bool) -> Result<(), Fail> {
+    let mut memory = [Concept::Top; 26];
+    let mut lines = [blank(); 1];
+    let mut docket = opened(&mut memory, &mut lines)?;
+    if sealed {
+        check_eq(told(docket.seal()), Ok(0))?;
     }
-    for (mate, c) in MATES.into_iter().zip(0..26) {
-        check_eq(told(docket.mate(c)), Ok(mate)).note(format_args!("mate of {c}"))?;
-    }
-    absent_refused(docket)
+    file_all(&mut docket)?;
+    alike(&mut docket, turned)?;
+    unlike(&mut docket, turned)?;
+    too_early_and_too_late(&mut docket, turned)?;
+    parts(&mut docket, turned)?;
+    mates(&docket)?;
+    absent_refused(&mut docket)
 }
 
 // In both phases, and in both orders of the two concepts.
 #[test]
 fn pairings() -> Result<(), Fail> {
-    let mut memory = [Concept::Top; 26];
-    let mut lines = [blank(); 1];
-    for (sealed, turned) in [(false, false), (false, true), (true, false), (true, true)] {
-        let mut docket = opened(&mut memory, &mut lines)?;
-        if sealed {
-            check_eq(told(docket.seal()), Ok(0))?;
-        }
-        file_all(&mut docket)?;
-        pair_all(&mut docket, turned).note(format_args!("sealed: {sealed}"))?;
-    }
-    Ok(())
+    pairings_in(false, false)?;
+    pairings_in(false, true).note("turned")?;
+    pairings_in(true, false).note("sealed")?;
+    pairings_in(true, true).note("sealed and turned")
 }

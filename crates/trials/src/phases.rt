@@ -33,7 +33,13 @@ fn refused_after(docket: &mut Docket) -> Result<(), Fail> {
 
 // The roles are as they were filed before the seal.
 fn roles_as_filed(docket: &Docket) -> Result<(), Fail> {
-    for (r, s, said) in [(0, 2, true), (1, 3, true), (2, 0, false), (4, 4, true), (4, 2, false)] {
+    for (r, s, said) in [
+        (0, 2, true),
+        (1, 3, true),
+        (2, 0, false),
+        (4, 4, true),
+        (4, 2, false),
+    ] {
         check_eq(told(docket.is_below(r, s)), Ok(said)).note(format_args!("below {r} {s}"))?;
     }
     for (r, said) in [(0, false), (2, false), (4, true), (5, true)] {

@@ -98,21 +98,13 @@ fn few_inclusions() -> Result<(), Fail> {
     )
 }
 
-// A chain over the first `names` role names, filed in the order that `step` gives: 0, step, 2 * step and so on, taken
-// modulo the number of its links. With `twist` each name is below the inverse of the next.
-fn chain(docket: &mut Docket, names: u16, step: u16, twist: u16) -> Result<(), Fail> {
-    check(names >= 2 && names <= 64 && step <= 64 && twist <= 1)?;
-    let links = names - 1;
-    for i in 0..links {
-        let name = i * step % links;
-        check_eq(told(docket.file_inclusion(2 * name, 2 * name + 2 + twist)), Ok(i as usize))?;
-    }
-    check_eq(told(docket.seal()), Ok(0))?;
+// Every pair of roles, where each of the first `names` names is below the next one, or below its inverse with `twist`.
+fn chained(docket: &Docket, names: u16, twist: bool) -> Result<(), Fail> {
     for r in 0..128u16 {
         for s in 0..128u16 {
             let (i, j) = (r / 2, s / 2);
-            // how often the way from i to j turns round
-            let turns = if i < j { (j - i) * twist } else { 0 };
+            // a twisted link leads from a role to an inverse, so that an even number of them leads back
+            let turns = if twist && i < j { j - i } else { 0 };
             let leads = i == j || (i < j && j < names);
             let said = leads && (r + s + turns) % 2 == 0;
             check_eq(told(docket.is_below(r, s)), Ok(said)).note(format_args!("below {r} {s}"))?;
@@ -121,16 +113,50 @@ fn chain(docket: &mut Docket, names: u16, step: u16, twist: u16) -> Result<(), F
     Ok(())
 }
 
-// Every pair of roles behind chains of 63 and of 64 role names, filed in order and out of order.
-#[test]
-fn long_chains() -> Result<(), Fail> {
+// The link that is filed as number `i` of so many: from the first on, from the last on, or every other one first.
+fn link(order: u8, i: u16, links: u16) -> Result<u16, Fail> {
+    check(i < links && links < 64)?;
+    Ok(
+        match order {
+            0 => i,
+            1 => links - 1 - i,
+            _ => {
+                if 2 * i < links {
+                    2 * i
+                } else {
+                    2 * i + 1 - links - links % 2
+                }
+            }
+        },
+    )
+}
+
+// Files such a chain, its links in this order.
+fn chain(names: u16, order: u8, twist: bool) -> Result<(), Fail> {
     let mut memory = [Concept::Top; 1];
     let mut lines = [blank(); 1];
-    for (names, step) in [(63, 1), (63, 61), (63, 37), (64, 1), (64, 62), (64, 37)] {
-        for twist in [0, 1] {
-            let mut docket = opened(&mut memory, &mut lines)?;
-            chain(&mut docket, names, step, twist)
-                .note(format_args!("{names} names by {step}, twist {twist}"))?;
+    let mut docket = opened(&mut memory, &mut lines)?;
+    let links = names.saturating_sub(1);
+    for i in 0..links {
+        let name = link(order, i, links)?;
+        check(name < links && links < 64)?;
+        let next = if twist { 2 * name + 3 } else { 2 * name + 2 };
+        check_eq(told(docket.file_inclusion(2 * name, next)), Ok(i as usize))?;
+    }
+    check_eq(told(docket.seal()), Ok(0))?;
+    chained(&docket, names, twist)
+}
+
+// Chains of 63 and of 64 role names, filed in order and out of order.
+#[test]
+fn long_chains() -> Result<(), Fail> {
+    for names in [63, 64] {
+        for order in 0..3 {
+            for twist in [false, true] {
+                chain(names, order, twist).note(format_args!(
+                    "{names} names in order {order}, twist: {twist}"
+                ))?;
+            }
         }
     }
     Ok(())
@@ -145,14 +171,19 @@ fn transitivities() -> Result<(), Fail> {
     // every third name, by the role or by its inverse
     for name in 0..64u16 {
         if name % 3 == 0 {
-            check_eq(told(docket.file_transitivity(2 * name + name % 2)), Ok(name as usize / 3))?;
+            check_eq(
+                told(docket.file_transitivity(2 * name + name % 2)),
+                Ok(name as usize / 3),
+            )?;
         }
     }
     check_eq(told(docket.file_inclusion(2, 126)), Ok(22))?;
     check_eq(told(docket.file_inclusion(0, 4)), Ok(23))?;
     check_eq(told(docket.seal()), Ok(0))?;
     for r in 0..128u16 {
-        check_eq(told(docket.is_transitive(r)), Ok(r / 2 % 3 == 0)).note(format_args!("transitive {r}"))?;
+        check_eq(told(docket.is_transitive(r)), Ok(r / 2 % 3 == 0)).note(format_args!(
+            "transitive {r}"
+        ))?;
     }
     Ok(())
 }
