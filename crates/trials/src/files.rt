@@ -8,138 +8,7 @@ use logic::concept::Concept;
 use records::reader::count;
 use std::test::*;
 
-// A record of each kind and a few more, with where each begins and ends, and what is answered to it.
-const FILE: [u8; 110] = [
-    4,
-    0,
-    1,
-    0,
-    0,
-    0,
-    2,
-    0, // 0: role 0 below role 2
-    2,
-    0,
-    2,
-    0,
-    2,
-    0, // 8: role 2 transitive
-    6,
-    0,
-    3,
-    0,
-    2,
-    0,
-    7,
-    0,
-    0,
-    0, // 14: name 7
-    6,
-    0,
-    3,
-    0,
-    3,
-    0,
-    7,
-    0,
-    0,
-    0, // 24: not name 7
-    4,
-    0,
-    4,
-    0,
-    0,
-    0,
-    1,
-    0, // 34: 0 and 1 as mates
-    2,
-    0,
-    5,
-    0,
-    0,
-    0, // 42: 0 as an axiom
-    0,
-    0,
-    6,
-    0, // 48: the seal
-    12,
-    0,
-    7,
-    0,
-    1,
-    0,
-    0,
-    0,
-    1,
-    0,
-    0,
-    0,
-    0,
-    0,
-    0,
-    0, // 52: a line without members
-    2,
-    0,
-    8,
-    0,
-    1,
-    0, // 68: a claim
-    4,
-    0,
-    9,
-    0,
-    0,
-    0,
-    0,
-    0, // 74: a claim closed as empty
-    8,
-    0,
-    10,
-    0,
-    0,
-    0,
-    0,
-    0,
-    1,
-    0,
-    0,
-    0, // 82: a claim closed as inhabited
-    6,
-    0,
-    3,
-    0,
-    0,
-    0,
-    0,
-    0,
-    0,
-    0, // 94: Top
-    2,
-    0,
-    5,
-    0,
-    0,
-    0, // 104: an axiom behind the seal
-];
-
 pub const MALFORMED: u16 = 1;
-
-const RECORDS: [(usize, usize, u16, Said<usize>); 13] = [
-    (0, 8, 1, Ok(0)),
-    (8, 14, 2, Ok(1)),
-    (14, 24, 3, Ok(0)),
-    (24, 34, 3, Ok(1)),
-    (34, 42, 4, Ok(0)),
-    (42, 48, 5, Ok(0)),
-    (48, 52, 6, Ok(0)),
-    // the docket doesn't have the calls for these kinds
-    (52, 68, 7, Err((MALFORMED, 52))),
-    (68, 74, 8, Err((MALFORMED, 68))),
-    (74, 82, 9, Err((MALFORMED, 74))),
-    (82, 94, 10, Err((MALFORMED, 82))),
-    (94, 104, 3, Ok(2)),
-    (104, 110, 5, Err((2, 0))),
-];
 
 // Marks the places for replies that nothing was written to.
 pub const UNTOUCHED: Reply = Reply {
@@ -152,9 +21,45 @@ pub fn is_untouched(reply: &Reply) -> Result<(), Fail> {
     check_eq(told(reply.answer), Ok(999))
 }
 
+// The records of the table below, one to a line.
 pub fn file() -> [u8; 110] {
-    FILE
+    *b"\
+        \x04\0\x01\0\0\0\x02\0\
+        \x02\0\x02\0\x02\0\
+        \x06\0\x03\0\x02\0\x07\0\0\0\
+        \x06\0\x03\0\x03\0\x07\0\0\0\
+        \x04\0\x04\0\0\0\x01\0\
+        \x02\0\x05\0\0\0\
+        \0\0\x06\0\
+        \x0c\0\x07\0\x01\0\0\0\x01\0\0\0\0\0\0\0\
+        \x02\0\x08\0\x01\0\
+        \x04\0\x09\0\0\0\0\0\
+        \x08\0\x0a\0\0\0\0\0\x01\0\0\0\
+        \x06\0\x03\0\0\0\0\0\0\0\
+        \x02\0\x05\0\0\0"
 }
+
+// A record of each kind and a few more: where each begins and ends, its kind, and what is answered to it.
+const RECORDS: [(usize, usize, u16, Said<usize>); 13] = [
+    // role 0 below role 2; role 2 transitive
+    (0, 8, 1, Ok(0)),
+    (8, 14, 2, Ok(1)),
+    // name 7, and not name 7, as mates
+    (14, 24, 3, Ok(0)),
+    (24, 34, 3, Ok(1)),
+    (34, 42, 4, Ok(0)),
+    // name 7 as an axiom, and the seal
+    (42, 48, 5, Ok(0)),
+    (48, 52, 6, Ok(0)),
+    // a line, a claim, and claims closed as empty and as inhabited: the docket doesn't have the calls for them
+    (52, 68, 7, Err((MALFORMED, 52))),
+    (68, 74, 8, Err((MALFORMED, 68))),
+    (74, 82, 9, Err((MALFORMED, 74))),
+    (82, 94, 10, Err((MALFORMED, 82))),
+    // behind the seal, Top, which is taken, and an axiom, which isn't
+    (94, 104, 3, Ok(2)),
+    (104, 110, 5, Err((2, 0))),
+];
 
 pub fn record(i: usize) -> Result<(usize, usize, u16, Said<usize>), Fail> {
     check(i < 13)?;
