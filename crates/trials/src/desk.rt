@@ -1,0 +1,42 @@
+use book::line::Cited;
+use book::line::Line;
+use book::line::Step;
+use docket::Answer;
+use docket::Docket;
+use logic::concept::Concept;
+use refusals::Refusal;
+use std::test::Fail;
+
+// What a call said: a value, or a refusal by its number and its place.
+pub type Said<T> = Result<T, (u16, usize)>;
+
+pub fn told<T: Copy>(answer: Result<T, Refusal>) -> Said<T> {
+    match answer {
+        Ok(value) => Ok(value),
+        Err(refusal) => Err(refusal.returned()),
+    }
+}
+
+// A line to fill memory with.
+pub fn blank() -> Line {
+    Line {
+        step: Step {
+            rule: 0,
+            p: 0,
+            q: 0,
+            s: 0,
+            cited: Cited::Nothing,
+        },
+        label: [0; 16],
+    }
+}
+
+// A docket whose capacities are those of the memory.
+pub fn opened<'a>(concepts: &'a mut [Concept], lines: &'a mut [Line]) -> Result<Docket<'a>, Fail> {
+    let n = concepts.len();
+    let m = lines.len();
+    match Docket::open(n, m, concepts, lines) {
+        Ok(docket) => Ok(docket),
+        Err(_) => Err(Fail::new("the docket was not opened")),
+    }
+}
