@@ -1,6 +1,7 @@
 pub mod show;
 
 ghost use Rattle.docket.specs.Runs.{Reached};
+ghost use Rattle.facts.specs.Facts.{ThreeFacts};
 ghost use Rattle.intake.specs.Taking.{Takes, FileTaken};
 
 use book::filing::Draft;
@@ -53,6 +54,7 @@ pub fn take<B: Bank>(docket: &mut Docket, bank: &B, frame: &Frame, rows: &mut [u
 pub fn take_file<B: Bank>(docket: &mut Docket, bank: &B, file: &[u8], rows: &mut [u64], replies: &mut [Reply]) -> Answer
     ensures taken { λ a. ⌜ FileTaken (B·Bank .calculus (now (bank .entry))) (now (file .entry)) (now (docket .entry)) (now (rows .entry)) (now (replies .entry)) a (now (docket .exit)) (now (rows .exit)) (now (replies .exit)) ⌝ }
     ensures reached { λ _. ⌜ (Reached (now (docket .entry)) → Reached (now (docket .exit))) ⌝ }
+    ensures facts { λ _. ⌜ ThreeFacts ⌝ }
 {
     if replies.len() < count(file) {
         return Err(Refusal::Range(1));

@@ -1,10 +1,15 @@
 use book::line::Cited;
 use book::line::Line;
 use book::line::Step;
+use calculus::rule::Principals;
 use docket::Answer;
 use docket::Docket;
+use intake::Reply;
+use intake::take_file;
 use logic::concept::Concept;
 use refusals::Refusal;
+use rules::house::HouseBank;
+use rules::table::house;
 use std::test::Fail;
 
 // What a call said: a value, or a refusal by its number and its place.
@@ -22,9 +27,7 @@ pub fn blank() -> Line {
     Line {
         step: Step {
             rule: 0,
-            p: 0,
-            q: 0,
-            s: 0,
+            on: Principals { p: 0, q: 0, s: 0 },
             cited: Cited::Nothing,
         },
         label: [0; 16],
@@ -39,4 +42,10 @@ pub fn opened<'a>(concepts: &'a mut [Concept], lines: &'a mut [Line]) -> Result<
         Ok(docket) => Ok(docket),
         Err(_) => Err(Fail::new("the docket was not opened")),
     }
+}
+
+// A file, with the ten rules and rows for a few concepts.
+pub fn hand_over(docket: &mut Docket, file: &[u8], replies: &mut [Reply]) -> Answer {
+    let mut rows = [0; 64];
+    take_file(docket, &house(), file, &mut rows, replies)
 }

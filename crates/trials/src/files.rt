@@ -1,9 +1,9 @@
 use crate::desk::Said;
 use crate::desk::blank;
+use crate::desk::hand_over;
 use crate::desk::opened;
 use crate::desk::told;
 use intake::Reply;
-use intake::take_file;
 use logic::concept::Concept;
 use records::reader::count;
 use std::test::*;
@@ -51,11 +51,12 @@ const RECORDS: [(usize, usize, u16, Said<usize>); 13] = [
     // name 7 as an axiom, and the seal
     (42, 48, 5, Ok(0)),
     (48, 52, 6, Ok(0)),
-    // a line, a claim, and claims closed as empty and as inhabited: the docket doesn't have the calls for them
-    (52, 68, 7, Err((MALFORMED, 52))),
-    (68, 74, 8, Err((MALFORMED, 68))),
-    (74, 82, 9, Err((MALFORMED, 74))),
-    (82, 94, 10, Err((MALFORMED, 82))),
+    // a line by a step that doesn't apply; a claim of "not name 7"; no line to close it by; a model of one element, which
+    // misses the axiom
+    (52, 68, 7, Err((8, 1))),
+    (68, 74, 8, Ok(0)),
+    (74, 82, 9, Err((4, 1))),
+    (82, 94, 10, Err((14, 0))),
     // behind the seal, Top, which is taken, and an axiom, which isn't
     (94, 104, 3, Ok(2)),
     (104, 110, 5, Err((2, 0))),
@@ -104,7 +105,7 @@ fn cut_to(n: usize) -> Result<(), Fail> {
     let begun = begun_before(n)?;
     check_eq(count(&whole[0..n]), begun)?;
     check_eq(
-        told(take_file(&mut docket, &whole[0..n], &mut replies)),
+        told(hand_over(&mut docket, &whole[0..n], &mut replies)),
         Ok(begun),
     )?;
     for (i, reply) in replies[0..13].iter().enumerate() {

@@ -1,4 +1,5 @@
 use crate::desk::blank;
+use crate::desk::hand_over;
 use crate::desk::opened;
 use crate::desk::told;
 use crate::files::UNTOUCHED;
@@ -6,7 +7,6 @@ use crate::files::file;
 use crate::files::is_untouched;
 use docket::Docket;
 use intake::Reply;
-use intake::take_file;
 use logic::concept::Concept;
 use std::test::*;
 
@@ -37,7 +37,7 @@ fn all_taken(docket: &Docket) -> Result<(), Fail> {
 // Thirteen records, and `n` of the places for replies.
 fn with_some(n: usize, docket: &mut Docket, replies: &mut [Reply]) -> Result<(), Fail> {
     check(n <= replies.len())?;
-    let answer = take_file(docket, &file(), &mut replies[0..n]);
+    let answer = hand_over(docket, &file(), &mut replies[0..n]);
     if n < 13 {
         check_eq(told(answer), Err((3, 1)))?;
         return nothing_changed(docket, replies);
@@ -61,8 +61,8 @@ fn without_places() -> Result<(), Fail> {
     let mut memory = [Concept::Top; 3];
     let mut lines = [blank(); 1];
     let mut docket = opened(&mut memory, &mut lines)?;
-    check_eq(told(take_file(&mut docket, &[], &mut [])), Ok(0))?;
-    check_eq(told(take_file(&mut docket, &[6], &mut [])), Err((3, 1)))?;
+    check_eq(told(hand_over(&mut docket, &[], &mut [])), Ok(0))?;
+    check_eq(told(hand_over(&mut docket, &[6], &mut [])), Err((3, 1)))?;
     nothing_changed(&mut docket, &[])
 }
 

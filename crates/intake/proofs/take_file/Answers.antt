@@ -3,12 +3,13 @@ use native.Mathlib.Omega.{arith}
 use Prim.Native.Nat.{ℕ, _+_, _<_, _≤_}
 use lib.ListN.{length, set, take}
 use Rattle.records.proofs.Offsets.{Passed, lies-all, passed-more, passed-all}
+use Rattle.facts.proofs.ThreeFacts.{three-facts}
 use Rattle.intake.specs.declared.Reply.{Reply}
 use Rattle.intake.proofs.Replies.{room-left, read-at, TakenTo, taken-more, taken-all, untouched-more, taken-reached}
 use Rattle.intake.proofs.take_file.Needs as need
 
 pub returns-then-replies-count : need.returns-then-replies-count
-returns-then-replies-count g c = record { taken = (refl, (c .count .result, c .count .ensures .counted, omega arith), refl, refl, refl); reached = λ p. p }
+returns-then-replies-count g c = record { taken = (refl, (c .count .result, c .count .ensures .counted, omega arith), refl, refl, refl); reached = λ p. p; facts = three-facts }
 
 pub offset-replies-n : need.offset-replies-n
 offset-replies-n g c = omega (arith, room-left (c .loop-frame .reader) (c .next .last .self) (c .in-Some .frame) (c .args .file .now) (c .loop-frame .n) (c .count .result) (length (c .loop-frame .replies))
@@ -54,4 +55,5 @@ returns g c =
     record {
       taken = (all, omega arith, taken, inv .3);
       reached = taken-reached k (g .B·Bank·met .lawful (c .args .bank .now)) f 0 (c .args .docket .now) (c .loop-frame .docket) (c .args .rows .now) (c .loop-frame .rows) _ taken;
+      facts = three-facts;
     }
