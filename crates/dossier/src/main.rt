@@ -46,7 +46,14 @@ fn fill(input: &mut impl Read, buffer: &mut [u8]) -> io::Result<usize>
 
 // A place for a line that no line has taken.
 fn blank_line() -> Line {
-    Line { step: Step { rule: 0, on: Principals { p: 0, q: 0, s: 0 }, cited: Cited::Nothing }, label: [0; 16] }
+    Line {
+        step: Step {
+            rule: 0,
+            on: Principals { p: 0, q: 0, s: 0 },
+            cited: Cited::Nothing,
+        },
+        label: [0; 16],
+    }
 }
 
 // Reads a dossier, hands it to a new docket with the ten rules, and prints the reply to each record and the tally.
@@ -56,11 +63,20 @@ fn run(rt: &LibcRuntime) -> Result<(), AnyError> {
     let mut concepts = [Concept::Top; CONCEPTS];
     let mut lines = [blank_line(); LINES];
     let mut rows = [0; ROWS];
-    let mut replies = [Reply { kind: 0, answer: Ok(0) }; RECORDS];
+    let mut replies = [Reply {
+        kind: 0,
+        answer: Ok(0),
+    }; RECORDS];
     let Ok(mut docket) = Docket::open(CONCEPTS, LINES, &mut concepts, &mut lines) else {
         return Err("no docket of these capacities".into());
     };
-    let Ok(count) = take_file(&mut docket, &house(), &buffer[0..filled], &mut rows, &mut replies) else {
+    let Ok(count) = take_file(
+        &mut docket,
+        &house(),
+        &buffer[0..filled],
+        &mut rows,
+        &mut replies,
+    ) else {
         return Err("more records than replies".into());
     };
     for (i, reply) in replies[0..count].iter().enumerate() {

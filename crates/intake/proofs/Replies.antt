@@ -54,7 +54,7 @@ pub taken-more : (k : Calculus) (f : List ℕ) (i n : ℕ) (d m m′ : Docket) (
     → TakesAt k f i m mid r m′ mid′ → TakenTo k f i d old (take n rs) m mid → TakenTo k f (end-of f i) d old (take (n + 1) (set rs n r)) m′ mid′
 taken-more k f i n d m m′ old mid mid′ rs r l h takes before ss e new rest =
     subst (λ (xs : List Reply). Taken k f 0 d old xs e new) (sym (ap (λ (xs : List Reply). xs ++ ss) (take-more-set rs n r h) ∙ append-assoc (take n rs) (r ∷ []) ss))
-        (before (r ∷ ss) e new (next l takes rest))
+    (before (r ∷ ss) e new (next l takes rest))
 
 pub taken-all : (k : Calculus) (f : List ℕ) (i : ℕ) (d m : Docket) (old mid : List ℕ) (rs : List Reply) → length f ≤ i → TakenTo k f i d old rs m mid → Taken k f 0 d old rs m mid
 taken-all k f i d m old mid rs l before = subst (λ (xs : List Reply). Taken k f 0 d old xs m mid) (append-nil rs) (before [] m mid (ended l))

@@ -57,7 +57,11 @@ fn all_damages(heap: Global, at: usize) -> Result<(), Fail> {
     check(from + 4 <= end && end <= 110)?;
     let size = (end - from - 4) as u16;
     // lines, claims and models can have every even length
-    let wrong = if kind == 7 || kind == 8 || kind == 10 { size + 3 } else { size + 2 };
+    let wrong = if kind == 7 || kind == 8 || kind == 10 {
+        size + 3
+    } else {
+        size + 2
+    };
     for (size, kind) in [
         (size + 1, kind),
         (wrong, kind),
