@@ -17,6 +17,9 @@ GIVEN = {
     'through?': 'is_through',
     'names?': 'is_named',
     'axiom?': 'is_axiom',
+    'bit-and': 'bit-bit_and',
+    'bit-or': 'bit-bit_or',
+    'bit-xor': 'bit-bit_xor',
 }
 # A crate that has the name of a library of the kit.
 CRATES = {'bytes': 'file_bytes'}

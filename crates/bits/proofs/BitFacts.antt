@@ -28,14 +28,14 @@ either_one zero (suc (suc b)) h k = absurd (omega arith)
 either_one (suc zero) (suc (suc b)) h k = absurd (omega arith)
 either_one (suc (suc a)) b h k = absurd (omega arith)
 
-pub bit_and : (x y j : ℕ) → bit (bit_and x y) j ≡ (bit x j && bit y j)
-bit_and x y j = ap (λ n. eqb n 1) low ∙ both_one (x / 2 ^ j % 2) (y / 2 ^ j % 2) (omega arith) (omega arith)
+pub bit-bit_and : (x y j : ℕ) → bit (bit_and x y) j ≡ (bit x j && bit y j)
+bit-bit_and x y j = ap (λ n. eqb n 1) low ∙ both_one (x / 2 ^ j % 2) (y / 2 ^ j % 2) (omega arith) (omega arith)
   where
     low : bit_and x y / 2 ^ j % 2 ≡ min (x / 2 ^ j % 2) (y / 2 ^ j % 2)
     low = rw (and_shr x y j, and_step (x / 2 ^ j) (y / 2 ^ j)) (omega arith)
 
-pub bit_or : (x y j : ℕ) → bit (bit_or x y) j ≡ (bit x j || bit y j)
-bit_or x y j = ap (λ n. eqb n 1) low ∙ either_one (x / 2 ^ j % 2) (y / 2 ^ j % 2) (omega arith) (omega arith)
+pub bit-bit_or : (x y j : ℕ) → bit (bit_or x y) j ≡ (bit x j || bit y j)
+bit-bit_or x y j = ap (λ n. eqb n 1) low ∙ either_one (x / 2 ^ j % 2) (y / 2 ^ j % 2) (omega arith) (omega arith)
   where
     low : bit_or x y / 2 ^ j % 2 ≡ max (x / 2 ^ j % 2) (y / 2 ^ j % 2)
     low = rw (or_shr x y j, or_step (x / 2 ^ j) (y / 2 ^ j)) (omega arith)
@@ -78,7 +78,7 @@ has_inserted row c k h = ⊎_elim here away (cases_eq c k)
     written : (j : ℕ) → bit (get_or (inserted row c) (c / 64) 0) j ≡ (bit word j || bit (2 ^ (c % 64)) j)
     written j =
         ap (λ w. bit w j) (get_or-set_same row (c / 64) (bit_or word (2 ^ (c % 64))) 0 (div_below c 64 (length row) (omega arith) (omega arith)))
-        ∙ bit_or word (2 ^ (c % 64)) j
+        ∙ bit-bit_or word (2 ^ (c % 64)) j
 
     here : c ≡ k → has (inserted row c) k ≡ (eqb c k || has row k)
     here e =

@@ -20,8 +20,8 @@ one_differs zero (suc (suc b)) h k = absurd (omega arith)
 one_differs (suc zero) (suc (suc b)) h k = absurd (omega arith)
 one_differs (suc (suc a)) b h k = absurd (omega arith)
 
-pub bit_xor : (x y j : ℕ) → bit (bit_xor x y) j ≡ xor (bit x j) (bit y j)
-bit_xor x y j = ap (λ n. eqb n 1) low ∙ one_differs (x / 2 ^ j % 2) (y / 2 ^ j % 2) (omega arith) (omega arith)
+pub bit-bit_xor : (x y j : ℕ) → bit (bit_xor x y) j ≡ xor (bit x j) (bit y j)
+bit-bit_xor x y j = ap (λ n. eqb n 1) low ∙ one_differs (x / 2 ^ j % 2) (y / 2 ^ j % 2) (omega arith) (omega arith)
   where
     low : bit_xor x y / 2 ^ j % 2 ≡ differ (x / 2 ^ j % 2) (y / 2 ^ j % 2) % 2
     low = rw (xor_shr x y j, xor_step (x / 2 ^ j) (y / 2 ^ j)) (omega arith)

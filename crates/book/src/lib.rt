@@ -1,3 +1,5 @@
+#![tactic(auto)]
+
 pub mod filing;
 pub mod line;
 pub mod members;

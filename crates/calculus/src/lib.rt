@@ -1,2 +1,4 @@
+#![tactic(auto)]
+
 pub mod bank;
 pub mod rule;

@@ -1,3 +1,5 @@
+#![tactic(auto)]
+
 ghost use Rattle.std.specs.Prelude.{◌≡◌, ◌≤◌, [], length, nat_le};
 ghost use Rattle.claims.specs.declared.Status.TheVariants.{Open, Empty, Inhabited};
 ghost use Rattle.claims.specs.Claiming.{filed, claim_at, is_unsettled, tallied, same_status, Added, Settled};

@@ -4,7 +4,7 @@ use lib.Bits.{bit_or}
 use Rattle.std.proofs.lemmas.List.{get_or-set_same, get_or-set_other}
 use Rattle.std.proofs.lemmas.Bool.{cases_eq}
 use Rattle.bits.specs.Bits.{bit}
-use Rattle.bits.proofs.BitFacts.{bit_or}
+use Rattle.bits.proofs.BitFacts.{bit-bit_or}
 use Rattle.closure.specs.Closure.{words, Square, word, cell, RowJoined}
 use Rattle.closure.proofs.Places.{place, place_row, place_column}
 
@@ -46,7 +46,7 @@ row_more old new roles i s k square hi hs hk p = record { done = done'; todo = t
 pub joined_cell : (old new : List ℕ) (roles i s : ℕ) → RowJoined old new roles i s → (b : ℕ) → b < roles
     → cell new roles i b ≡ (cell old roles i b || cell old roles s b)
 joined_cell old new roles i s p b h =
-    ap (λ w. bit w (b % 64)) (p.joined (b / 64) (omega arith)) ∙ bit_or (word old roles i (b / 64)) (word old roles s (b / 64)) (b % 64)
+    ap (λ w. bit w (b % 64)) (p.joined (b / 64) (omega arith)) ∙ bit-bit_or (word old roles i (b / 64)) (word old roles s (b / 64)) (b % 64)
 
 pub other_cell : (old new : List ℕ) (roles i s : ℕ) → RowJoined old new roles i s → (a b : ℕ) → a < roles → b < roles → a ≢ i
     → cell new roles a b ≡ cell old roles a b

@@ -1,3 +1,5 @@
+#![tactic(auto)]
+
 ghost use Rattle.std.specs.Prelude.{◌≡◌, ◌%◌, ◌^◌, ◌<◌, List, [], ◌∷◌, ◌++◌};
 ghost use Rattle.logic.specs.declared.role.RoleAxiom.{RoleAxiom};
 ghost use Rattle.logic.specs.declared.role.RoleAxiom.TheVariants.{Inclusion};

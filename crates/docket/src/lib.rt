@@ -1,3 +1,5 @@
+#![tactic(auto)]
+
 pub mod claiming;
 pub mod conclusion;
 pub mod fields;

@@ -1,3 +1,5 @@
+#![tactic(auto)]
+
 ghost use Rattle.examples.specs.Table.{cases, AllHold};
 
 // The worked examples. A call of it does nothing; that it is proved says that every row of the table holds.

@@ -1,3 +1,5 @@
+#![tactic(auto)]
+
 ghost use Rattle.facts.specs.Facts.{ThreeFacts};
 ghost use Rattle.facts.specs.Filing.{ClosedTreesAreTaken};
 

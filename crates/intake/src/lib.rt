@@ -1,3 +1,5 @@
+#![tactic(auto)]
+
 pub mod show;
 
 ghost use Rattle.docket.specs.Runs.{Reached};

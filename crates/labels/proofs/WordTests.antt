@@ -4,8 +4,8 @@ use mathlib.Core.Bool.{xor, and_comm}
 use lib.Bits.{bit_and, bit_xor}
 use Rattle.std.proofs.lemmas.Bool.{cases_lt, le-leb, lt-leb}
 use Rattle.bits.specs.Bits.{bit, has}
-use Rattle.bits.proofs.BitFacts.{bit_and}
-use Rattle.bits.proofs.Words.{bit_xor, bit_ones, bit_from}
+use Rattle.bits.proofs.BitFacts.{bit-bit_and}
+use Rattle.bits.proofs.Words.{bit-bit_xor, bit_ones, bit_from}
 use Rattle.labels.proofs.WordSearch.{Tests}
 
 at_word : (r : List ℕ) (w j : ℕ) → j < 64 → has r (64 * w + j) ≡ bit (get_or r w 0) j
@@ -26,7 +26,7 @@ pub outside_tests : (y x : List ℕ) (w : ℕ) → Tests (bit_xor (get_or y w 0)
 outside_tests y x w j l =
     let a = get_or y w 0 in
     let b = get_or x w 0 in
-    bit_xor a (bit_and a b) j ∙ ap (xor (bit a j)) (bit_and a b j) ∙ difference (bit a j) (bit b j)
+    bit-bit_xor a (bit_and a b) j ∙ ap (xor (bit a j)) (bit-bit_and a b j) ∙ difference (bit a j) (bit b j)
     ∙ sym (ap₂ (λ p q. p && not q) (at_word y w j l) (at_word x w j l))
 
 -- the numbers from c upward, and those below a count
@@ -44,4 +44,4 @@ pub cut_tests : (r : List ℕ) (count w k ones : ℕ) → k ≡ count - 64 * w �
 cut_tests r count w k ones e f j l =
     let low : bit ones j ≡ ltb (64 * w + j) count =
     ap (λ n. bit n j) f ∙ bit_ones (min 64 k) j ∙ same_leb (suc j) (min 64 k) (suc (64 * w + j)) count (λ h. omega arith) (λ h. omega arith) in
-    bit_and (get_or r w 0) ones j ∙ and_comm (bit (get_or r w 0) j) (bit ones j) ∙ ap₂ (λ p q. p && q) low (sym (at_word r w j l))
+    bit-bit_and (get_or r w 0) ones j ∙ and_comm (bit (get_or r w 0) j) (bit ones j) ∙ ap₂ (λ p q. p && q) low (sym (at_word r w j l))

@@ -1,2 +1,4 @@
+#![tactic(auto)]
+
 pub mod members;
 pub mod rows;

@@ -1,3 +1,5 @@
+#![tactic(auto)]
+
 mod evaluation;
 mod form;
 mod items;

@@ -1,3 +1,5 @@
+#![tactic(auto)]
+
 mod layout;
 pub mod reader;
 pub mod record;

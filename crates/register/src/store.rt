@@ -74,8 +74,8 @@ impl<'a, E: Entry + Copy> Register<'a, E> {
 
     // Takes one entry more, and answers its number.
     pub fn push(&mut self, entry: E) -> Result<usize, Unfit>
-        ensures pushed { Pushed references self.old self.new entry result }
-        ensures ordered { Ordered references (entries self.old) → Ordered references (entries self.new) }
+        ensures pushed { Pushed E.references self.old self.new entry result }
+        ensures ordered { Ordered E.references (entries self.old) → Ordered E.references (entries self.new) }
     {
         let number = self.len();
         if !entry.refers_below(number) {

@@ -16,8 +16,8 @@ differ_turned zero (suc (suc b)) h k = absurd (omega arith)
 differ_turned (suc zero) (suc (suc b)) h k = absurd (omega arith)
 differ_turned (suc (suc a)) b h k = absurd (omega arith)
 
-pub bit_xor : (x y j : ℕ) → bit (bit_xor x y) j ≡ turned (bit y j) (bit x j)
-bit_xor x y j =
+pub bit-bit_xor : (x y j : ℕ) → bit (bit_xor x y) j ≡ turned (bit y j) (bit x j)
+bit-bit_xor x y j =
     ap (λ n. eqb (n % 2) 1) (ap (λ n. n / 2 ^ j) (xor_comm x y) ∙ xor_shr y x j ∙ xor_step (y / 2 ^ j) (x / 2 ^ j))
     ∙ ap (λ n. eqb n 1) (twice (bit_xor (y / 2 ^ j / 2) (x / 2 ^ j / 2)) (differ (y / 2 ^ j % 2) (x / 2 ^ j % 2)))
     ∙ differ_turned (y / 2 ^ j % 2) (x / 2 ^ j % 2) (omega arith) (omega arith)

@@ -1,3 +1,5 @@
+#![tactic(auto)]
+
 ghost use Rattle.std.specs.Prelude.{◌≡◌, ◌-◌, ◌*◌, ◌^◌, ◌<◌, min, false, ◌&&◌, ◌||◌, ◌==◌, nat_lt};
 ghost use Rattle.rows.specs.Rows.{HasRow, contains, turned, RowBecomes};
 

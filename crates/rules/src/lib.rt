@@ -1,4 +1,6 @@
 // The ten rules as one bank.
 
+#![tactic(auto)]
+
 pub mod house;
 pub mod table;

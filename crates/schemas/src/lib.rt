@@ -1,3 +1,5 @@
+#![tactic(auto)]
+
 pub mod conclusion;
 
 ghost use Rattle.calculus.specs.Calculi.{LawfulCalculus};

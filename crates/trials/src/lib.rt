@@ -1,3 +1,5 @@
+#![tactic(auto)]
+
 // Trials of the whole docket: tables of calls, with the answers that the rules give. Nothing else is in this crate.
 #[cfg(test)]
 mod capacities;

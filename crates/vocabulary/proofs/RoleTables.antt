@@ -7,7 +7,7 @@ use lib.Dec.{eqb_refl}
 use Rattle.std.proofs.lemmas.Nat.{one_shl}
 use Rattle.std.proofs.lemmas.Bool.{cases_eq}
 use Rattle.bits.specs.Bits.{bit}
-use Rattle.bits.proofs.BitFacts.{bit_or, bit_zero, pow_same, bit_pow_other}
+use Rattle.bits.proofs.BitFacts.{bit-bit_or, bit_zero, pow_same, bit_pow_other}
 use Rattle.logic.specs.declared.role.RoleAxiom.{RoleAxiom}
 use Rattle.logic.specs.declared.role.RoleAxiom.TheVariants.{Inclusion, Transitivity}
 use Rattle.logic.specs.Roles.{inverse, Transitive, NamesBelow, AllNameBelow}
@@ -79,10 +79,10 @@ transitive_more names axioms r lr kept x l = rw (one_shl (r / 2) 64 (omega arith
     forth h = ⊎_elim
         (λ k. still_transitive axioms (Transitivity r) x ((kept x l).0 k))
         (λ k. named_transitive axioms (Transitivity r) x (same_name (power_bit (r / 2) (x / 2) k)))
-        (or_T (bit names (x / 2)) (bit (2 ^ (r / 2)) (x / 2)) (subst T (bit_or names (2 ^ (r / 2)) (x / 2)) h))
+        (or_T (bit names (x / 2)) (bit (2 ^ (r / 2)) (x / 2)) (subst T (bit-bit_or names (2 ^ (r / 2)) (x / 2)) h))
 
     back : Transitive (axioms ++ Transitivity r ∷ []) x → T (bit (bit_or names (2 ^ (r / 2))) (x / 2))
-    back h = subst T (sym (bit_or names (2 ^ (r / 2)) (x / 2))) (T_or (bit names (x / 2)) (bit (2 ^ (r / 2)) (x / 2))
+    back h = subst T (sym (bit-bit_or names (2 ^ (r / 2)) (x / 2))) (T_or (bit names (x / 2)) (bit (2 ^ (r / 2)) (x / 2))
         (⊎_elim (λ k. inl ((kept x l).1 k)) (λ e. inr (rw (its_name e) (subst T (sym (pow_same (x / 2))) tt))) (now_transitive axioms (Transitivity r) x h)))
 
 -- x becomes y by the axiom a more

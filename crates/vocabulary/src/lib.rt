@@ -1,3 +1,5 @@
+#![tactic(auto)]
+
 pub mod axioms;
 pub mod mates;
 pub mod roles;

@@ -7,6 +7,6 @@ pub loop-i-preserved : goal.loop-i-preserved
 loop-i-preserved c =
     elim c.if-below.branch [
       | then-below w ↦ rw w.table-is (pair_then _ _ _ _ _ _ _ (omega arith) (omega arith) (omega arith) c.loop-i.invariant
-          (sym c.below.ensures ∙ w.if-below.true) w.join-row.ensures)
+          (sym c.below.ensures ∙ w.if-below.true) w.join_row.ensures)
       | else-below w ↦ rw w.table-is (pair_else _ _ _ _ _ _ (omega arith) (omega arith) c.loop-i.invariant (sym c.below.ensures ∙ w.if-below.false))
     ]

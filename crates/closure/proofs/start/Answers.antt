@@ -9,7 +9,7 @@ loop-at-preserved c =
     below_more _ _
     (λ k h. let ne : k ≢ c.loop-at.at = omega arith in rw get_or-set_other (c.loop-at.invariant k h))
     (let lt : c.loop-at.at < length c.loop-at.table = omega arith in
-    rw get_or-set_same (c.own-word.ensures ∙ ap (λ w. own_word (c.loop-at.at / w) (c.loop-at.at % w)) c.row-words-width.ensures))
+    rw get_or-set_same (c.own_word.ensures ∙ ap (λ w. own_word (c.loop-at.at / w) (c.loop-at.at % w)) c.row_words-width.ensures))
 
 pub returns : goal.returns
 returns c = exact_start _ _ (λ k h. c.loop-at.invariant k (omega arith))

@@ -1,6 +1,6 @@
 use Rattle.std.proofs.Common.{◌+◌, ◌*◌, ◌/◌, ◌%◌, get_or, ap₂, arith}
 use lib.Bits.{bit_or}
-use Rattle.bits.proofs.BitFacts.{bit_or}
+use Rattle.bits.proofs.BitFacts.{bit-bit_or}
 use Rattle.rows.proofs.RowFacts.{words_none, words_more, words_all}
 use Rattle.rows.proofs.unite.Goals as goal
 
@@ -11,4 +11,4 @@ pub loop-w-preserved : goal.loop-w-preserved
 loop-w-preserved c = words_more _ _ _ _ _ _ (omega arith) (omega arith) c.loop-w.invariant (ap₂ bit_or (c.loop-w.invariant.others _ (omega arith)) (c.loop-w.invariant.others _ (omega arith)))
 
 pub returns : goal.returns
-returns c = words_all _ _ _ _ _ _ (omega arith) c.loop-w.invariant (λ e h. bit_or (get_or c.args.rows.now (4 * c.args.a + e / 64) 0) (get_or c.args.rows.now (4 * c.args.b + e / 64) 0) (e % 64))
+returns c = words_all _ _ _ _ _ _ (omega arith) c.loop-w.invariant (λ e h. bit-bit_or (get_or c.args.rows.now (4 * c.args.a + e / 64) 0) (get_or c.args.rows.now (4 * c.args.b + e / 64) 0) (e % 64))

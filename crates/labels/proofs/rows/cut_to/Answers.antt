@@ -10,7 +10,7 @@ loop-w-preserved c =
     let (size, words) = c.loop-w.invariant in
     let r = c.args.row.now in
     let n = c.args.count in
-    let tests = cut_tests r n c.loop-w.w _ _ c.saturating-sub.ensures c.low-bits.ensures in
+    let tests = cut_tests r n c.loop-w.w _ _ c.saturating_sub.ensures c.low_bits.ensures in
     (length-set _ _ _ ∙ size, words_more c.loop-w.cut c.loop-w.w _ (λ i. ltb i n && has r i) (omega arith) words tests)
 
 pub returns : goal.returns

@@ -10,7 +10,7 @@ loop-w-init c = least_none _
 pub loop-w-preserved : goal.loop-w-preserved
 loop-w-preserved c =
     let tests = outside_tests c.args.y.now c.args.x.now c.loop-w.w in
-    word_none _ c.loop-w.w _ tests c.loop-w.invariant (sym c.in-default.ensures.is)
+    word_none _ c.loop-w.w _ tests c.loop-w.invariant (sym c.in_default.ensures.is)
 
 pub returns-in-Some : goal.returns-in-Some
 returns-in-Some c =

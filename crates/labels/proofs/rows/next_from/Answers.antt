@@ -10,12 +10,12 @@ loop-w-init c = all_least (64 * (c.args.c / 64)) _ (λ k l. and_left _ _ (lt-leb
 
 pub loop-w-preserved : goal.loop-w-preserved
 loop-w-preserved c =
-    let tests = next_tests c.args.row.now c.args.c c.loop-w.w _ _ c.saturating-sub.ensures c.without-low.ensures in
-    word_none _ c.loop-w.w _ tests c.loop-w.invariant (sym c.in-default.ensures.is)
+    let tests = next_tests c.args.row.now c.args.c c.loop-w.w _ _ c.saturating_sub.ensures c.without_low.ensures in
+    word_none _ c.loop-w.w _ tests c.loop-w.invariant (sym c.in_default.ensures.is)
 
 pub returns-in-Some : goal.returns-in-Some
 returns-in-Some c =
-    let tests = next_tests c.args.row.now c.args.c c.loop-w.w _ _ c.saturating-sub.ensures c.without-low.ensures in
+    let tests = next_tests c.args.row.now c.args.c c.loop-w.w _ _ c.saturating_sub.ensures c.without_low.ensures in
     sym (word_here _ c.loop-w.w c.in-Some.j _ tests (omega arith) c.loop-w.invariant (sym c.in-Some.ensures.is))
 
 pub returns : goal.returns

@@ -21,7 +21,7 @@ loop-n-preserved c =
 pub returns : goal.returns
 returns c =
     let (same, few, within, passed) = c.loop-n.invariant in
-    let (past, unchanged) = c.in-default.ensures in
+    let (past, unchanged) = c.in_default.ensures in
     record {
       counted = passed_all c.args.file.now c.loop-n.n c.loop-n.reader.at (omega (arith, ap length same)) passed;
       law = files_are_their_records;
