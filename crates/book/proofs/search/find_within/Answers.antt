@@ -9,19 +9,19 @@ use Rattle.book.proofs.search.find_within.Goals as goal
 pub loop-k-init : goal.loop-k-init
 loop-k-init c = least_none _
 
-pub returns-then-is-within : goal.returns-then-is-within
-returns-then-is-within c =
+pub returns-then-is_within : goal.returns-then-is_within
+returns-then-is_within c =
     let ls = c.args.lines.now in
     let k = c.loop-k.k in
     sym (least_here (length ls) k (λ i. lies_within (label_of ls i) c.args.x.now) c.loop-k.invariant
-    (ap (λ (l : Line). lies_within l.label c.args.x.now) (sym (get_or_default ls k _ blank c.loop-k-test.true)) ∙ sym c.if-is-within.ensures) c.loop-k-test.true)
+    (ap (λ (l : Line). lies_within l.label c.args.x.now) (sym (get_or_default ls k _ blank c.loop-k-test.true)) ∙ sym c.if-is_within.ensures) c.loop-k-test.true)
 
 pub loop-k-preserved : goal.loop-k-preserved
 loop-k-preserved c =
     let ls = c.args.lines.now in
     let k = c.loop-k.k in
     least_more k (λ i. lies_within (label_of ls i) c.args.x.now) c.loop-k.invariant
-    (ap (λ (l : Line). lies_within l.label c.args.x.now) (sym (get_or_default ls k _ blank c.loop-k-test.true)) ∙ sym c.if-is-within.ensures)
+    (ap (λ (l : Line). lies_within l.label c.args.x.now) (sym (get_or_default ls k _ blank c.loop-k-test.true)) ∙ sym c.if-is_within.ensures)
 
 pub returns : goal.returns
 returns c =

@@ -6,7 +6,7 @@ use Rattle.models.proofs.AnyFacts.{any_same}
 use Rattle.models.proofs.PairFacts.{target_in_range}
 use Rattle.models.proofs.WalkFacts.{row_as, walk_none, walk_insert, walk_skip, walk_all}
 use Rattle.models.proofs.evaluation.fill_reaching.Goals as goal
-use Rattle.models.proofs.evaluation.fill_reaching.Goals.{then-is-hit, else-is-hit}
+use Rattle.models.proofs.evaluation.fill_reaching.Goals.{then-is_hit, else-is_hit}
 
 pub loop-i-init : goal.loop-i-init
 loop-i-init c =
@@ -26,9 +26,9 @@ loop-i-preserved c =
     let o : contains c.loop-i.rows c.args.b (edge_target es r i) ≡ contains c.clear.new.rows c.args.b (edge_target es r i) =
     other_row _ _ _ _ c.loop-i.invariant c.args.b (edge_target es r i) d t in
     let q = ap (λ b. eqb (edge_role es i) (r / 2) && turned c.args.outside b) (sym o) in
-    elim c.if-is-hit.branch [
-      | then-is-hit w ↦ rw w.rows-is (walk_insert _ _ _ _ p s _ _ c.loop-i.invariant (q ∙ sym w.if-is-hit.ensures) w.edge-source.ensures w.insert.ensures)
-      | else-is-hit w ↦ rw w.rows-is (walk_skip _ _ _ p s _ c.loop-i.invariant (q ∙ sym w.if-is-hit.ensures))
+    elim c.if-is_hit.branch [
+      | then-is_hit w ↦ rw w.rows-is (walk_insert _ _ _ _ p s _ _ c.loop-i.invariant (q ∙ sym w.if-is_hit.ensures) w.edge_source.ensures w.insert.ensures)
+      | else-is_hit w ↦ rw w.rows-is (walk_skip _ _ _ p s _ c.loop-i.invariant (q ∙ sym w.if-is_hit.ensures))
     ]
 
 pub returns : goal.returns

@@ -3,27 +3,27 @@ use Rattle.models.specs.Models.{described}
 use Rattle.models.proofs.JudgingFacts.{role_axioms_met, axioms_first, axioms_met, point_first, failed_member}
 use Rattle.models.proofs.verdict.judge_by.Goals as goal
 
-pub returns-in-Some-first-missed : goal.returns-in-Some-first-missed
-returns-in-Some-first-missed c = λ j.
-    let formed = c.in-default.ensures in
+pub returns-in-Some-first_missed : goal.returns-in-Some-first_missed
+returns-in-Some-first_missed c = λ j.
+    let formed = c.in_default.ensures in
     let evaluated = c.evaluate.ensures j.ordered in
     record {
       formed = formed;
-      meets_roles = role_axioms_met (described c.args.model.now) c.args.asked.now c.in-default-first-broken.ensures;
-      first_missed = axioms_first _ formed _ _ _ evaluated _ (Some c.in-Some-first-missed.i) j.axioms_stand c.in-Some-first-missed.ensures;
+      meets_roles = role_axioms_met (described c.args.model.now) c.args.asked.now c.in_default-first_broken.ensures;
+      first_missed = axioms_first _ formed _ _ _ evaluated _ (Some c.in-Some-first_missed.i) j.axioms_stand c.in-Some-first_missed.ensures;
       evaluated = evaluated;
     }
 
-pub returns-in-Some-least-missed : goal.returns-in-Some-least-missed
-returns-in-Some-least-missed c = λ j.
-    let formed = c.in-default.ensures in
+pub returns-in-Some-least_missed : goal.returns-in-Some-least_missed
+returns-in-Some-least_missed c = λ j.
+    let formed = c.in_default.ensures in
     let evaluated = c.evaluate.ensures j.ordered in
-    let first = point_first _ formed _ _ _ evaluated c.args.label.now _ (Some c.in-Some-least-missed.c) formed.sized.pointed j.few c.in-Some-least-missed.ensures in
+    let first = point_first _ formed _ _ _ evaluated c.args.label.now _ (Some c.in-Some-least_missed.c) formed.sized.pointed j.few c.in-Some-least_missed.ensures in
     record {
       formed = formed;
       meets = record {
-        meets_roles = role_axioms_met (described c.args.model.now) c.args.asked.now c.in-default-first-broken.ensures;
-        meets_axioms = axioms_met _ formed _ _ _ evaluated _ (axioms_first _ formed _ _ _ evaluated _ None j.axioms_stand c.in-default-first-missed.ensures);
+        meets_roles = role_axioms_met (described c.args.model.now) c.args.asked.now c.in_default-first_broken.ensures;
+        meets_axioms = axioms_met _ formed _ _ _ evaluated _ (axioms_first _ formed _ _ _ evaluated _ None j.axioms_stand c.in_default-first_missed.ensures);
       };
       member = failed_member _ _ first.1;
       least_missed = first;
@@ -32,14 +32,14 @@ returns-in-Some-least-missed c = λ j.
 
 pub returns : goal.returns
 returns c = λ j.
-    let formed = c.in-default.ensures in
+    let formed = c.in_default.ensures in
     let evaluated = c.evaluate.ensures j.ordered in
     record {
       formed = formed;
       meets = record {
-        meets_roles = role_axioms_met (described c.args.model.now) c.args.asked.now c.in-default-first-broken.ensures;
-        meets_axioms = axioms_met _ formed _ _ _ evaluated _ (axioms_first _ formed _ _ _ evaluated _ None j.axioms_stand c.in-default-first-missed.ensures);
+        meets_roles = role_axioms_met (described c.args.model.now) c.args.asked.now c.in_default-first_broken.ensures;
+        meets_axioms = axioms_met _ formed _ _ _ evaluated _ (axioms_first _ formed _ _ _ evaluated _ None j.axioms_stand c.in_default-first_missed.ensures);
       };
-      point_lies = λ k i. point_first _ formed _ _ _ evaluated c.args.label.now _ None formed.sized.pointed j.few c.in-default-least-missed.ensures k (j.label_stands k i) i;
+      point_lies = λ k i. point_first _ formed _ _ _ evaluated c.args.label.now _ None formed.sized.pointed j.few c.in_default-least_missed.ensures k (j.label_stands k i) i;
       evaluated = evaluated;
     }

@@ -8,13 +8,13 @@ use Rattle.role_rules.proofs.neighbour.given.Goals as goal
 pub loop-d-init : goal.loop-d-init
 loop-d-init c =
     let v = c.args.v.now in
-    let e : c.insert.new.row ≡ inserted v.axioms.row c.args.c = c.insert.ensures ∙ ap (λ r. inserted r c.args.c) c.axiom-row-row.ensures in
-    let before : length c.axiom-row-row.result ≡ 16 = omega arith in
-    let size = subst (λ (r : List ℕ). length r ≡ 16) c.axiom-row-row.ensures before in
+    let e : c.insert.new.row ≡ inserted v.axioms.row c.args.c = c.insert.ensures ∙ ap (λ r. inserted r c.args.c) c.axiom_row-row.ensures in
+    let before : length c.axiom_row-row.result ≡ 16 = omega arith in
+    let size = subst (λ (r : List ℕ). length r ≡ 16) c.axiom_row-row.ensures before in
     (omega arith, walk_starts v.axioms.row c.insert.new.row c.args.c (λ k j. has c.args.x.now j && gives v c.args.r j k) size (omega arith) e)
 
-pub overflow-add-from : goal.overflow-add-from
-overflow-add-from c = let n = next_is c.args.x.now c.loop-d.from c.in-Some.d (sym c.in-Some.ensures) in omega arith
+pub overflow_add-from : goal.overflow_add-from
+overflow_add-from c = let n = next_is c.args.x.now c.loop-d.from c.in-Some.d (sym c.in-Some.ensures) in omega arith
 
 pub loop-d-smaller : goal.loop-d-smaller
 loop-d-smaller c = let n = next_is c.args.x.now c.loop-d.from c.in-Some.d (sym c.in-Some.ensures) in omega arith
@@ -32,4 +32,4 @@ pub returns : goal.returns
 returns c =
     let v = c.args.v.now in
     walk_ends c.args.x.now c.loop-d.from c.loop-d.row (λ k. eqb c.args.c k || is_axiom v k) (λ j k. gives v c.args.r j k)
-    c.loop-d.invariant.0 (sym c.in-default.ensures) c.loop-d.invariant.1
+    c.loop-d.invariant.0 (sym c.in_default.ensures) c.loop-d.invariant.1

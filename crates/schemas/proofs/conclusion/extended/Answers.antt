@@ -18,5 +18,5 @@ returns c =
     let (size, same) = c.loop-c.invariant in
     let all = sym (at_drop_all (λ (xs : List ℕ). filled c.loop-c.all xs) c.args.added.now c.loop-c.c-index (omega arith)) ∙ same in
     let sixteen : length c.args.row.now ≡ 16 = omega arith in
-    extended_row c.args.row.now c.loop-c.all c.args.added.now c.cut-to.result _ sixteen all
-    (subst (λ (n : ℕ). Row c.cut-to.result (λ k. ltb k n && has c.loop-c.all k)) c.len.ensures c.cut-to.ensures)
+    extended_row c.args.row.now c.loop-c.all c.args.added.now c.cut_to.result _ sixteen all
+    (subst (λ (n : ℕ). Row c.cut_to.result (λ k. ltb k n && has c.loop-c.all k)) c.len.ensures c.cut_to.ensures)

@@ -13,6 +13,6 @@ returns-in-Some-Exists c =
     let o = concept_at v c.args.on.p in
     let role : c.in-Some-Exists.r ≡ first_of o = search rules in
     let part : c.in-Some-Exists.c ≡ second_of o = search rules in
-    cut_row c.given.result c.cut-to.result 1 c.args.i (length (concepts v)) _ _ _ (omega arith) (sym c.if-not-applies.ensures)
+    cut_row c.given.result c.cut_to.result 1 c.args.i (length (concepts v)) _ _ _ (omega arith) (sym c.if-not-applies.ensures)
     (λ k. ap₂ (λ (r d : ℕ). (eqb d k || is_axiom v k) || some_below 1024 (λ j. has x j && gives v r j k)) role part)
-    c.given.ensures (simp c.len.ensures at c.cut-to.ensures)
+    c.given.ensures (simp c.len.ensures at c.cut_to.ensures)
