@@ -1,6 +1,6 @@
 -- What a docket holds, and how one is opened.
 use Rattle.std.specs.Prelude.{◌≡◌, ℕ, ◌≤◌, Bool, true, false, ◌||◌, List, [], ◌∷◌, length, Some, None, Ok, Err, Option, Result, nat_lt}
-use Rattle.std.specs.Borrow.{Bor}
+use Rattle.std.specs.Borrow.{MutBor}
 use Rattle.refusals.specs.declared.Refusal.{Refusal}
 use Rattle.refusals.specs.declared.Refusal.TheVariants.{Phase, Range}
 use Rattle.refusals.specs.Checks.{when, first}
@@ -41,7 +41,7 @@ opening_rows n m a b =
     ∷ when (nat_lt a n || nat_lt b m) (Range 2) ∷ []
 
 -- opening gives a new docket of these capacities over the host's memory, or refuses and hands the memory back as it was
-abbrev pub Opened : ℕ → ℕ → Bor (List Concept) → Bor (List Line) → Result Docket Unopened → Type 0
+abbrev pub Opened : ℕ → ℕ → MutBor (List Concept) → MutBor (List Line) → Result Docket Unopened → Type 0
 Opened n m cs ls (Ok d) = (first (opening_rows n m (length cs.now) (length ls.now)) ≡ None) × Fresh d
     × (room d.vocabulary.concepts ≡ n) × (room d.book ≡ m) × (d.vocabulary.concepts.slots ≡ cs) × (d.book.slots ≡ ls)
 Opened n m cs ls (Err u) = (first (opening_rows n m (length cs.now) (length ls.now)) ≡ Some u.refusal) × (u.concepts ≡ cs) × (u.lines ≡ ls)

@@ -11,9 +11,9 @@ returns g c =
     let v = c.args.self.now.vocabulary in
     let r = c.conclusion.result in
     let sixteen = c.conclusion.ensures.0 in
-    let written = c.write-row.ensures in
+    let written = c.write_row.ensures in
     let is : Row r (k.concludes f.rule v f.on (asked_label f) f.index) =
-    rw (← c.row-of-label.ensures, ← c.in-ok-index.ensures.1) c.conclusion.ensures in (
+    rw (← c.row_of-label.ensures, ← c.in_ok-index.ensures.1) c.conclusion.ensures in (
       search rules,
       subst (λ x. Row x (k.concludes f.rule v f.on (asked_label f) f.index)) (sym (ap (take 16) written ∙ take_at r _ 16 sixteen)) is,
       ap (drop 16) written ∙ drop_at r _ 16 sixteen,

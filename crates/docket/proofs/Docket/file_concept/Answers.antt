@@ -6,5 +6,5 @@ use Rattle.docket.proofs.Docket.file_concept.Goals as goal
 
 pub returns-in-Ok : goal.returns-in-Ok
 returns-in-Ok c =
-    let filed = subst (λ (d : Docket). ConceptFiled d.vocabulary c.file-concept.new.self c.in-ok-k.k (Ok c.in-Ok.number)) c.in-ok-enter.ensures.1 c.in-Ok.ensures in
-    record { acts = search rules; stays = means_the_same c.args.self.now c.file-concept.new.self c.in-ok-k.k c.in-Ok.number filed }
+    let filed = subst (λ (d : Docket). ConceptFiled d.vocabulary c.file_concept.new.self c.in_ok-k.k (Ok c.in-Ok.number)) c.in_ok-enter.ensures.1 c.in-Ok.ensures in
+    record { acts = search rules; stays = means_the_same c.args.self.now c.file_concept.new.self c.in_ok-k.k c.in-Ok.number filed }

@@ -7,7 +7,7 @@ use Rattle.docket.proofs.Docket.pair.Goals as goal
 
 pub returns-then-pair : goal.returns-then-pair
 returns-then-pair c =
-    let same = ap (λ (d : Docket). pairable d.vocabulary c.args.c c.args.d) c.in-ok-enter.ensures.1 in
+    let same = ap (λ (d : Docket). pairable d.vocabulary c.args.c c.args.d) c.in_ok-enter.ensures.1 in
     record {
       acts = search rules;
       right = record {
@@ -18,7 +18,7 @@ returns-then-pair c =
 
 pub returns-else-pair : goal.returns-else-pair
 returns-else-pair c =
-    let same = ap (λ (d : Docket). pairable d.vocabulary c.args.c c.args.d) c.in-ok-enter.ensures.1 in
+    let same = ap (λ (d : Docket). pairable d.vocabulary c.args.c c.args.d) c.in_ok-enter.ensures.1 in
     record {
       acts = search rules;
       right = record {
