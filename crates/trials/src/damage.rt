@@ -28,27 +28,27 @@ fn with_record(
 }
 
 // The record number `at`, of this length and kind, is malformed; before and behind it all is as ever.
-fn as_damaged(rt: &impl Abort, i: usize, at: usize, kind: u16, reply: &Reply) -> Result<(), Fail> {
+fn as_damaged(rt: &impl Abort, i: usize, at: usize, wrong: (u16, u16), reply: &Reply) {
+    let (size, kind) = wrong;
     if i == at {
         let (from, _, _, _) = record(rt, at);
-        assert_eq!(rt; reply.kind, kind);
-        assert_eq!(rt; told(reply.answer), Err((MALFORMED, from)));
-        return Ok(());
+        assert_eq!(rt; reply.kind, kind, "kind {kind} of {size} at {from}");
+        assert_eq!(rt; told(reply.answer), Err((MALFORMED, from)), "kind {kind} of {size} at {from}");
+        return;
     }
-    let (_, _, kind, said) = record(rt, if i < at { i } else { i - 1 });
-    assert_eq!(rt; reply.kind, kind);
-    assert_eq!(rt; told(reply.answer), said);
-    Ok(())
+    let (_, _, own, said) = record(rt, if i < at { i } else { i - 1 });
+    assert_eq!(rt; reply.kind, own, "record {i} with kind {kind} of {size} before {at}");
+    assert_eq!(rt; told(reply.answer), said, "record {i} with kind {kind} of {size} before {at}");
 }
 
-fn read_past(rt: &impl Abort, file: &[u8], at: usize, kind: u16) -> Result<(), Fail> {
+fn read_past(rt: &impl Abort, file: &[u8], at: usize, wrong: (u16, u16)) -> Result<(), Fail> {
     let mut memory = [Concept::Top; 3];
     let mut lines = [blank(); 1];
     let mut docket = opened(&mut memory, &mut lines)?;
     let mut replies = [UNTOUCHED; 14];
     assert_eq!(rt; told(hand_over(&mut docket, file, &mut replies)), Ok(14));
     for (i, reply) in replies.iter().enumerate() {
-        as_damaged(rt, i, at, kind, reply).note(format_args!("record {i}"))?;
+        as_damaged(rt, i, at, wrong, reply);
     }
     Ok(())
 }
@@ -76,7 +76,7 @@ fn all_damages(rt: &impl Abort, heap: Global, at: usize) -> Result<(), Fail> {
         (size + 1, 0),
     ] {
         let longer = with_record(rt, heap, from, size, kind)?;
-        read_past(rt, &longer, at, kind).note(format_args!("kind {kind} of {size} at {from}"))?;
+        read_past(rt, &longer, at, (size, kind))?;
     }
     Ok(())
 }

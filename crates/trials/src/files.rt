@@ -13,10 +13,9 @@ pub const UNTOUCHED: Reply = Reply {
     answer: Ok(999),
 };
 
-pub fn is_untouched(rt: &impl Abort, reply: &Reply) -> Result<(), Fail> {
+pub fn is_untouched(rt: &impl Abort, reply: &Reply) {
     assert_eq!(rt; reply.kind, 999);
     assert_eq!(rt; told(reply.answer), Ok(999));
-    Ok(())
 }
 
 // The records of the table below, one to a line.
@@ -79,20 +78,20 @@ fn begun_before(rt: &impl Abort, n: usize) -> usize {
 
 // The reply to record `i`, where the file ends at place `n`: one that is whole is answered as ever, and one that is cut is
 // malformed. The kind is in the third and fourth bytes.
-fn as_cut(rt: &impl Abort, i: usize, n: usize, reply: &Reply) -> Result<(), Fail> {
+fn as_cut(rt: &impl Abort, i: usize, n: usize, reply: &Reply) {
     let (from, end, kind, said) = record(rt, i);
     if end <= n {
-        assert_eq!(rt; reply.kind, kind);
-        assert_eq!(rt; told(reply.answer), said);
-        return Ok(());
+        assert_eq!(rt; reply.kind, kind, "record {i}, cut to {n} bytes");
+        assert_eq!(rt; told(reply.answer), said, "record {i}, cut to {n} bytes");
+        return;
     }
     if from >= n {
-        return is_untouched(rt, reply);
+        is_untouched(rt, reply);
+        return;
     }
     let seen = if n - from < 4 { 0 } else { kind };
-    assert_eq!(rt; reply.kind, seen);
-    assert_eq!(rt; told(reply.answer), Err((MALFORMED, from)));
-    Ok(())
+    assert_eq!(rt; reply.kind, seen, "record {i}, cut to {n} bytes");
+    assert_eq!(rt; told(reply.answer), Err((MALFORMED, from)), "record {i}, cut to {n} bytes");
 }
 
 fn cut_to(rt: &impl Abort, n: usize) -> Result<(), Fail> {
@@ -103,21 +102,22 @@ fn cut_to(rt: &impl Abort, n: usize) -> Result<(), Fail> {
     let mut replies = [UNTOUCHED; 14];
     let whole = file();
     let begun = begun_before(rt, n);
-    assert_eq!(rt; count(&whole[0..n]), begun);
+    assert_eq!(rt; count(&whole[0..n]), begun, "cut to {n} bytes");
     assert_eq!(rt;
         told(hand_over(&mut docket, &whole[0..n], &mut replies)),
-        Ok(begun)
+        Ok(begun), "cut to {n} bytes"
     );
     for (i, reply) in replies[0..13].iter().enumerate() {
-        as_cut(rt, i, n, reply).note(format_args!("record {i}"))?;
+        as_cut(rt, i, n, reply);
     }
-    is_untouched(rt, &replies[13])
+    is_untouched(rt, &replies[13]);
+    Ok(())
 }
 
 #[test]
 fn cut_at_every_byte(rt: HostRuntime) -> Result<(), Fail> {
     for n in 0..111 {
-        cut_to(&rt, n).note(format_args!("cut to {n} bytes"))?;
+        cut_to(&rt, n)?;
     }
     Ok(())
 }

@@ -136,8 +136,8 @@ fn concepts_in(rt: &impl Abort, sealed: bool) -> Result<(), Fail> {
 // In both phases.
 #[test]
 fn concept_fields(rt: HostRuntime) -> Result<(), Fail> {
-    concepts_in(&rt, false).note("before the seal")?;
-    concepts_in(&rt, true).note("after the seal")
+    concepts_in(&rt, false)?;
+    concepts_in(&rt, true)
 }
 
 fn role_axioms(rt: &impl Abort, docket: &mut Docket) {

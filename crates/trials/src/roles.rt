@@ -104,7 +104,7 @@ fn few_inclusions(rt: HostRuntime) -> Result<(), Fail> {
 }
 
 // Every pair of roles, where each of the first `names` names is below the next one, or below its inverse with `twist`.
-fn chained(rt: &impl Abort, docket: &Docket, names: u16, twist: bool) {
+fn chained(rt: &impl Abort, docket: &Docket, names: u16, order: u8, twist: bool) {
     for r in 0..128u16 {
         for s in 0..128u16 {
             let (i, j) = (r / 2, s / 2);
@@ -112,7 +112,11 @@ fn chained(rt: &impl Abort, docket: &Docket, names: u16, twist: bool) {
             let turns = if twist && i < j { j - i } else { 0 };
             let leads = i == j || (i < j && j < names);
             let said = leads && (r + s + turns) % 2 == 0;
-            assert_eq!(rt; told(docket.is_below(r, s)), Ok(said), "below {r} {s}");
+            assert_eq!(rt;
+                told(docket.is_below(r, s)),
+                Ok(said),
+                "below {r} {s} of {names} names in order {order}, twist: {twist}"
+            );
         }
     }
 }
@@ -146,7 +150,7 @@ fn chain(rt: &impl Abort, names: u16, order: u8, twist: bool) -> Result<(), Fail
         assert_eq!(rt; told(docket.file_inclusion(2 * name, next)), Ok(i as usize));
     }
     assert_eq!(rt; told(docket.seal()), Ok(0));
-    chained(rt, &docket, names, twist);
+    chained(rt, &docket, names, order, twist);
     Ok(())
 }
 
@@ -156,9 +160,7 @@ fn long_chains(rt: HostRuntime) -> Result<(), Fail> {
     for names in [63, 64] {
         for order in 0..3 {
             for twist in [false, true] {
-                chain(&rt, names, order, twist).note(format_args!(
-                    "{names} names in order {order}, twist: {twist}"
-                ))?;
+                chain(&rt, names, order, twist)?;
             }
         }
     }

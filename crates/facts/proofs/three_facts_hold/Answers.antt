@@ -3,4 +3,4 @@ use Rattle.facts.proofs.ThreeFacts.{three_facts}
 use Rattle.facts.proofs.three_facts_hold.Goals as goal
 
 pub returns : goal.returns
-returns c = record { facts = three_facts; every-calculus = trees_are_taken }
+returns c = record { facts = three_facts; every_calculus = trees_are_taken }
