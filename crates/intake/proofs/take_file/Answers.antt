@@ -8,8 +8,8 @@ use Rattle.intake.proofs.take_file.Goals as goal
 pub returns-then-replies-count : goal.returns-then-replies-count
 returns-then-replies-count g c = record { taken = (refl, (c.count.result, c.count.ensures.counted, omega arith), refl, refl, refl); reached = λ p. p; facts = three_facts }
 
-pub offset-bounds-replies-n : goal.offset-bounds-replies-n
-offset-bounds-replies-n g c = omega (
+pub offset_bounds-replies-n : goal.offset_bounds-replies-n
+offset_bounds-replies-n g c = omega (
   arith,
   room_left c.loop-frame.reader c.next.new.self c.in-Some.frame c.args.file.now c.loop-frame.n c.count.result (length c.loop-frame.replies)
       c.loop-frame.invariant.0 c.in-Some.ensures c.loop-frame.invariant.1 c.count.ensures.counted (omega arith),
@@ -19,8 +19,8 @@ pub bounds-replies-n : goal.bounds-replies-n
 bounds-replies-n g c = room_left c.loop-frame.reader c.next.new.self c.in-Some.frame c.args.file.now c.loop-frame.n c.count.result (length c.loop-frame.replies)
     c.loop-frame.invariant.0 c.in-Some.ensures c.loop-frame.invariant.1 c.count.ensures.counted (omega arith)
 
-pub overflow-add-n : goal.overflow-add-n
-overflow-add-n g c = omega (
+pub overflow_add-n : goal.overflow_add-n
+overflow_add-n g c = omega (
   arith,
   room_left c.loop-frame.reader c.next.new.self c.in-Some.frame c.args.file.now c.loop-frame.n c.count.result (length c.loop-frame.replies)
       c.loop-frame.invariant.0 c.in-Some.ensures c.loop-frame.invariant.1 c.count.ensures.counted (omega arith),
@@ -50,7 +50,7 @@ returns g c =
     let k = g.B.Bank.calculus c.args.bank.now in
     let f = c.args.file.now in
     let inv = c.loop-frame.invariant in
-    let end : length f ≤ c.loop-frame.reader.at = subst (λ x. length x ≤ c.loop-frame.reader.at) inv.0 c.in-default.ensures.0 in
+    let end : length f ≤ c.loop-frame.reader.at = subst (λ x. length x ≤ c.loop-frame.reader.at) inv.0 c.in_default.ensures.0 in
     let all = passed_all f c.loop-frame.n c.loop-frame.reader.at end inv.1 in
     let lies = lies_all f 0 in
     let counted = c.count.ensures.counted lies.0 lies.1 in
