@@ -1,5 +1,5 @@
 -- Sets of numbers as rows of 64-bit words.
-use Rattle.std.specs.Prelude.{ℕ, ◌/◌, ◌%◌, ◌^◌, Bool, List, set, ◌==◌, bit_or, slice_index, slice_set}
+use Rattle.std.specs.Prelude.{ℕ, ◌/◌, ◌%◌, ◌^◌, Bool, List, ◌==◌, bit_or, slice_index, slice_set}
 
 -- bit j of the number x
 abbrev pub bit : ℕ → ℕ → Bool

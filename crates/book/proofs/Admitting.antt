@@ -1,12 +1,10 @@
 -- What it says of a draft that no row refuses it.
-use Rattle.std.proofs.Common.{◌≡◌, ℕ, zero, suc, ◌+◌, ◌<◌, ◌≤◌, Bool, true, false, cond, not, ◌&&◌, eqb, ltb, leb, ◌⊎◌, ◌↔◌, List, [], ◌∷◌, length, Some, None, Option, sym, refl, ap, ◌∙◌, inl, inr, ⊎_elim, arith}
+use Rattle.std.proofs.Common.{◌≡◌, ℕ, ◌+◌, ◌<◌, ◌≤◌, Bool, true, false, cond, not, ◌&&◌, eqb, ltb, leb, List, [], ◌∷◌, length, Some, None, Option, sym, refl, ap, ◌∙◌, ⊎_elim, arith}
 use Rattle.std.proofs.lemmas.Bool.{cases_lt, cases_eq, lt-ltb, le-ltb, lt-leb, eqb-true, eq-eqb, ne_eqb}
-use Rattle.refusals.specs.declared.Refusal.{Refusal}
 use Rattle.refusals.specs.declared.Refusal.TheVariants.{Absent, Order, Unlicensed}
-use Rattle.refusals.specs.Checks.{when, with, first}
-use Rattle.refusals.proofs.Clearing.{Clear, clear, cleared, when_none, none_when, not-false, leb_false}
+use Rattle.refusals.specs.Checks.{with, first}
+use Rattle.refusals.proofs.Clearing.{clear, cleared, when_none, none_when, not-false, leb_false}
 use Rattle.bits.specs.Bits.{has}
-use Rattle.labels.specs.Least.{least}
 use Rattle.labels.specs.Labels.{absent_at, falling_at}
 use Rattle.labels.proofs.LeastFacts.{least_all, all_least}
 use Rattle.register.specs.References.{all_below}
@@ -15,8 +13,8 @@ use Rattle.vocabulary.specs.Vocabularies.{concepts}
 use Rattle.calculus.specs.Calculi.{Calculus}
 use Rattle.book.specs.declared.filing.Draft.{Draft}
 use Rattle.book.specs.declared.line.Line.{Line}
-use Rattle.book.specs.Lines.{cited, cited_lines, citing, label_of}
-use Rattle.book.specs.Drafts.{members, label, line_of, conclusion, least_outside, unfit, draft_rows, Licensed, Admitted, RowsAreRight}
+use Rattle.book.specs.Lines.{cited_lines, label_of}
+use Rattle.book.specs.Drafts.{members, label, line_of, conclusion, least_outside, unfit, draft_rows, Admitted, RowsAreRight}
 
 never : {A : Type 0} → true ≡ false → A
 never h = let z : ◌≡◌ {A = ℕ} 0 1 = cc in absurd (omega arith)

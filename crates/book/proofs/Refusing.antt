@@ -3,7 +3,7 @@ use Rattle.std.proofs.Common.{◌≡◌, ℕ, ◌+◌, ◌<◌, leb, List, [], �
 use Rattle.std.proofs.lemmas.Bool.{lt-leb}
 use Rattle.refusals.specs.declared.Refusal.{Refusal}
 use Rattle.refusals.specs.declared.Refusal.TheVariants.{Full, Order}
-use Rattle.refusals.specs.Checks.{when, with, otherwise, first}
+use Rattle.refusals.specs.Checks.{with, otherwise, first}
 use Rattle.refusals.proofs.Clearing.{first_before, first_behind, none_when}
 use Rattle.labels.specs.Labels.{falling_at}
 use Rattle.vocabulary.specs.declared.Vocabulary.{Vocabulary}

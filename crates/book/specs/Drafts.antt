@@ -1,5 +1,5 @@
 -- A line as it is handed over, what speaks against it, and when it is licensed.
-use Rattle.std.specs.Prelude.{◌≡◌, ℕ, ◌+◌, ◌<◌, Bool, true, false, cond, not, ◌&&◌, ◌↔◌, List, [], ◌∷◌, ◌++◌, length, Some, None, Ok, Err, Option, Result, ◌==◌, nat_le, nat_lt}
+use Rattle.std.specs.Prelude.{◌≡◌, ℕ, ◌+◌, ◌<◌, Bool, true, cond, not, ◌&&◌, ◌↔◌, List, [], ◌∷◌, ◌++◌, length, Some, None, Ok, Err, Option, Result, ◌==◌, nat_le, nat_lt}
 use Rattle.refusals.specs.declared.Refusal.{Refusal}
 use Rattle.refusals.specs.declared.Refusal.TheVariants.{Range, Absent, Full, Order, Inapplicable, Unlicensed}
 use Rattle.refusals.specs.Checks.{when, with, first}
@@ -9,7 +9,6 @@ use Rattle.labels.specs.Least.{least}
 use Rattle.labels.specs.Labels.{row, absent_at, falling_at}
 use Rattle.vocabulary.specs.declared.Vocabulary.{Vocabulary}
 use Rattle.vocabulary.specs.Vocabularies.{concepts}
-use Rattle.calculus.specs.declared.rule.Principals.{Principals}
 use Rattle.calculus.specs.Calculi.{Calculus}
 use Rattle.book.specs.declared.filing.Draft.{Draft}
 use Rattle.book.specs.declared.line.Line.{Line}

@@ -2,10 +2,8 @@
 use Rattle.std.specs.Prelude.{ℕ, Bool, true, false, cond, List, [], ◌∷◌, length, replicate, Some, None, Option, ◌==◌, slice_index_or}
 use Rattle.labels.specs.Least.{least}
 use Rattle.labels.specs.Labels.{outside}
-use Rattle.calculus.specs.declared.rule.Principals.{Principals}
 use Rattle.book.specs.declared.line.Cited.{Cited}
 use Rattle.book.specs.declared.line.Cited.TheVariants.{Nothing, One, Two}
-use Rattle.book.specs.declared.line.Step.{Step}
 use Rattle.book.specs.declared.line.Line.{Line}
 
 abbrev pub cited : Cited → List ℕ

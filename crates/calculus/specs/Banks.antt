@@ -1,9 +1,8 @@
 -- The law of a bank from the laws of its rules.
-use Rattle.std.specs.Prelude.{◌≡◌, ℕ, ◌<◌, ◌≤◌, Bool, true, false, cond, ◌&&◌, ◌||◌, List, ◌==◌, refl}
+use Rattle.std.specs.Prelude.{◌≡◌, ℕ, ◌<◌, ◌≤◌, Bool, true, false, cond, ◌||◌, ◌==◌, refl}
 use Rattle.std.proofs.lemmas.Bool.{and_parts}
 use Rattle.bits.specs.Bits.{has as has-bit}
 use Rattle.vocabulary.specs.declared.Vocabulary.{Vocabulary}
-use Rattle.calculus.specs.declared.rule.Principals.{Principals}
 use Rattle.calculus.specs.Schemas.{Schema, Sound, Lawful}
 use Rattle.calculus.specs.Calculi.{Calculus, LawfulCalculus, alone, beside}
 

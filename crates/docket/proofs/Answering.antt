@@ -1,10 +1,8 @@
 -- The answers mean what they should, in every docket that is reached.
-use Rattle.std.proofs.Common.{◌≡◌, ℕ, ◌/◌, ◌<◌, Bool, true, false, ◌&&◌, T, ltb, ◌↔◌, List, [], ◌∷◌, ◌++◌, length, Some, None, Ok, Option, sym, refl, ap, ◌∙◌, subst, arith}
+use Rattle.std.proofs.Common.{◌≡◌, ℕ, ◌/◌, ◌<◌, Bool, true, false, T, ◌↔◌, List, [], ◌∷◌, Some, None, Ok, Option, sym, refl, ◌∙◌, subst, arith}
 use Rattle.std.proofs.lemmas.Bool.{lt-ltb}
-use Rattle.register.specs.Registers.{entries}
 use Rattle.bits.specs.Bits.{bit}
 use Rattle.logic.specs.declared.concept.Concept.{Concept}
-use Rattle.logic.specs.Interpretations.{Interpretation}
 use Rattle.logic.specs.Meaning.{LiesIn}
 use Rattle.logic.proofs.RoleFacts.{below_is_sound, transitive_is_sound}
 use Rattle.logic.proofs.Complements.{opposites_are_complements}

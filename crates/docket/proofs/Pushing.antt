@@ -1,5 +1,5 @@
 -- The register of lines takes what the book admits.
-use Rattle.std.proofs.Common.{◌≡◌, ℕ, ◌<◌, true, false, List, length, None, Err, sym, subst, arith}
+use Rattle.std.proofs.Common.{◌≡◌, ℕ, ◌<◌, true, List, length, None, Err, arith}
 use Rattle.refusals.specs.Checks.{first}
 use Rattle.register.specs.declared.store.Register.{Register}
 use Rattle.register.specs.declared.store.Unfit.{Unfit}
@@ -11,7 +11,7 @@ use Rattle.calculus.specs.Calculi.{Calculus}
 use Rattle.book.specs.declared.filing.Draft.{Draft}
 use Rattle.book.specs.declared.line.Line.{Line}
 use Rattle.book.specs.Lines.{cited_lines}
-use Rattle.book.specs.Drafts.{line_of, draft_rows, Admitted}
+use Rattle.book.specs.Drafts.{line_of, draft_rows}
 use Rattle.book.proofs.Admitting.{admitted, cites_standing}
 
 pub never_unfit : (k : Calculus) (v : Vocabulary) (b s : Register Line) (ls : List Line) (n : ℕ) (f : Draft) (l : Line) (u : Unfit)

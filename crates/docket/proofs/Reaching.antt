@@ -1,16 +1,14 @@
 -- Every docket that is reached keeps what its vocabulary keeps.
-use Rattle.std.proofs.Common.{◌≡◌, ℕ, ◌<◌, true, false, leb, List, length, Some, None, Ok, Err, Result, sym, ap, ◌∙◌, subst, arith}
+use Rattle.std.proofs.Common.{◌≡◌, ℕ, ◌<◌, false, leb, Ok, Err, Result, sym, subst}
 use Rattle.refusals.specs.declared.Refusal.{Refusal}
-use Rattle.refusals.specs.Checks.{first}
 use Rattle.refusals.proofs.Clearing.{clear, when_none, leb_false}
 use Rattle.logic.specs.declared.concept.Concept.{Concept}
 use Rattle.logic.specs.declared.concept.Concept.TheVariants.{Top, Bottom, Name, NotName, And, Or, Only, Exists}
-use Rattle.vocabulary.specs.declared.Vocabulary.{Vocabulary}
 use Rattle.vocabulary.specs.Keeping.{InRange, Kept}
 use Rattle.vocabulary.proofs.Keeping.{kept_new, kept_role_axiom, kept_concept, kept_pair, kept_axiom}
 use Rattle.docket.specs.declared.Docket.{Docket}
 use Rattle.docket.specs.Fields.{use_of_first, out_of_range, Written}
-use Rattle.docket.specs.Dockets.{Fresh, count}
+use Rattle.docket.specs.Dockets.{count}
 use Rattle.docket.specs.Calls.{Call, inclusion, transitivity, concept, pair, general, seal, line, claim, close_empty, close_inhabited, all_rows, Acts}
 use Rattle.docket.specs.Runs.{Reached, began, called}
 

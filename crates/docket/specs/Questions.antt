@@ -10,7 +10,7 @@ use Rattle.logic.specs.Interpretations.{Interpretation, Includes, IsTransitive, 
 use Rattle.logic.specs.Meaning.{LiesIn}
 use Rattle.logic.specs.Laws.{Complements}
 use Rattle.vocabulary.specs.declared.Vocabulary.{Vocabulary}
-use Rattle.vocabulary.specs.Roles.{role_axioms, is_below, is_transitive}
+use Rattle.vocabulary.specs.Roles.{role_axioms}
 use Rattle.vocabulary.specs.Mates.{mate}
 use Rattle.vocabulary.specs.Vocabularies.{concepts}
 use Rattle.vocabulary.specs.Pairing.{Pairable}

@@ -15,7 +15,7 @@ use Rattle.logic.specs.Meaning.{LiesIn}
 use Rattle.logic.proofs.Meanings.{grow}
 use Rattle.vocabulary.specs.declared.Vocabulary.{Vocabulary}
 use Rattle.vocabulary.specs.Roles.{role_axioms}
-use Rattle.vocabulary.specs.Vocabularies.{concepts, axioms}
+use Rattle.vocabulary.specs.Vocabularies.{concepts}
 use Rattle.vocabulary.specs.Keeping.{Kept}
 use Rattle.calculus.specs.Cases.{MeetsAxioms, Inhabits}
 use Rattle.models.specs.declared.Model.{Model}

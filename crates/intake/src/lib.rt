@@ -7,10 +7,10 @@ ghost use Rattle.facts.specs.Facts.{ThreeFacts};
 ghost use Rattle.intake.specs.Taking.{Takes, FileTaken};
 
 use book::filing::Draft;
-use file_bytes::field;
 use calculus::bank::Bank;
 use calculus::rule::Principals;
 use docket::{Answer, Docket};
+use file_bytes::field;
 use models::Model;
 use records::reader::{Reader, count};
 use records::record::{Frame, Record};

@@ -1,11 +1,11 @@
 -- Opposites are complements.
 use Rattle.std.proofs.Common.{ℕ, Bool, true, false, not, T, ◌⊎◌, List, ◌++◌, inl, inr, ⊎_elim}
 use Rattle.logic.specs.declared.concept.Concept.{Concept}
-use Rattle.logic.specs.declared.concept.Concept.TheVariants.{Top, Bottom, Name, NotName, And, Or, Only, Exists}
-use Rattle.logic.specs.Interpretations.{Interpretation, leads, Leads}
+use Rattle.logic.specs.declared.concept.Concept.TheVariants.{Bottom, Name, NotName, And, Or, Only, Exists}
+use Rattle.logic.specs.Interpretations.{leads, Leads}
 use Rattle.logic.specs.Meaning.{LiesIn, in_top, in_name, in_not_name, in_and, in_left, in_right, in_only, in_exists}
 use Rattle.logic.specs.Opposites.{Opposite, top_bottom, name_not_name, and_or, only_exists, swapped}
-use Rattle.logic.specs.Laws.{Complements, OppositesAreComplements}
+use Rattle.logic.specs.Laws.{OppositesAreComplements}
 use Rattle.logic.proofs.Finite.{search_upto}
 use Rattle.logic.proofs.Meanings.{at_means, at_append}
 

@@ -1,7 +1,7 @@
 -- Inverse roles turn pairs round; what is below is included, and what counts as transitive is transitive.
 use Rattle.std.proofs.Common.{◌≡◌, ℕ, zero, suc, ◌-◌, ◌/◌, ◌%◌, ◌<◌, cond, T, eqb, sym, refl, subst, inl, inr, arith}
 use Rattle.logic.specs.declared.role.RoleAxiom.TheVariants.{Inclusion, Transitivity}
-use Rattle.logic.specs.Roles.{inverse, Below, listed, itself, chained, inverted}
+use Rattle.logic.specs.Roles.{inverse, listed, itself, chained, inverted}
 use Rattle.logic.specs.Interpretations.{Interpretation, leads, Leads}
 use Rattle.logic.specs.Laws.{BelowIsSound, TransitiveIsSound}
 

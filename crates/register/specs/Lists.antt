@@ -1,5 +1,5 @@
 -- Lists of bounded length.
-use Rattle.std.specs.Prelude.{◌≡◌, ℕ, ◌<◌, ◌≤◌, List, [], ◌∷◌, ◌++◌, length, take, set, Some, None, Option}
+use Rattle.std.specs.Prelude.{◌≡◌, ℕ, ◌<◌, ◌≤◌, List, [], ◌∷◌, ◌++◌, length, take, Some, None, Option}
 use Rattle.register.specs.declared.bounded.Bounded.{Bounded}
 
 module _ {T : Type 0} {N : ℕ} where

@@ -1,7 +1,7 @@
 -- A walk through the members of a label, each of which puts numbers into a row.
-use Rattle.std.proofs.Common.{◌≡◌, ℕ, ◌+◌, ◌*◌, ◌<◌, ◌≤◌, Bool, true, false, ◌&&◌, ◌||◌, eqb, ltb, leb, List, length, Some, None, sym, refl, ap, ◌∙◌, ap₂, ⊎_elim, arith}
-use mathlib.Core.Bool.{or-false, or_assoc, or_comm}
-use Rattle.std.proofs.lemmas.Bool.{cases_lt, and_parts, and_cases, and_left, and_right, both_ways, cases_Bool, lt-ltb, le-ltb, le-leb, leb-true}
+use Rattle.std.proofs.Common.{◌≡◌, ℕ, ◌+◌, ◌*◌, ◌<◌, ◌≤◌, Bool, true, false, ◌&&◌, ◌||◌, eqb, ltb, leb, List, length, Some, None, sym, refl, ap, ◌∙◌, ⊎_elim, arith}
+use mathlib.Core.Bool.{or-false, or_comm}
+use Rattle.std.proofs.lemmas.Bool.{cases_lt, and_parts, and_cases, and_left, and_right, both_ways, lt-ltb, le-ltb, le-leb, leb-true}
 use Rattle.bits.specs.Bits.{has, inserted}
 use Rattle.bits.proofs.BitFacts.{has_past}
 use Rattle.labels.specs.Labels.{Row, next_from}

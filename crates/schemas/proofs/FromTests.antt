@@ -1,9 +1,9 @@
 -- What the tests of a rule say, the table says.
-use Rattle.std.proofs.Common.{◌≡◌, ℕ, zero, suc, ◌-◌, ◌<◌, ◌≤◌, Bool, true, false, cond, ◌&&◌, ◌||◌, eqb, ltb, ◌⊎◌, List, [], ◌∷◌, length, get_or, sym, refl, ap, ◌∙◌, subst, inl, inr, ⊎_elim, arith}
-use Rattle.std.proofs.lemmas.Bool.{and_parts, or_cases, eqb-true, ltb-true}
+use Rattle.std.proofs.Common.{◌≡◌, ℕ, zero, suc, ◌-◌, ◌<◌, ◌≤◌, Bool, true, false, cond, ◌&&◌, ◌||◌, eqb, ◌⊎◌, List, [], ◌∷◌, get_or, sym, refl, subst, inl, inr, ⊎_elim, arith}
+use Rattle.std.proofs.lemmas.Bool.{and_parts, or_cases, eqb-true}
 use Rattle.bits.specs.Bits.{has}
 use Rattle.labels.specs.Labels.{among}
-use Rattle.logic.specs.declared.concept.Concept.TheVariants.{Bottom, And, Or, Only, Exists}
+use Rattle.logic.specs.declared.concept.Concept.TheVariants.{Only, Exists}
 use Rattle.logic.specs.Concepts.{At}
 use Rattle.logic.specs.Roles.{inverse}
 use Rattle.vocabulary.specs.declared.Vocabulary.{Vocabulary}

@@ -1,6 +1,6 @@
 -- The house is lawful, and says exactly what the table says.
 use Rattle.std.proofs.Common.{◌≡◌, ℕ, zero, suc, ◌-◌, ◌≤◌, true, get_or, refl, arith}
-use Rattle.calculus.specs.Calculi.{LawfulCalculus, alone, beside}
+use Rattle.calculus.specs.Calculi.{LawfulCalculus}
 use Rattle.calculus.specs.Banks.{alone_lawful, beside_lawful}
 use Rattle.schemas.specs.Table.{conclusions}
 use Rattle.schemas.specs.House.{bottom, clash, conjunction, disjunction, narrower, general, cut, inverse_cut, transitive_cut, neighbour, house}

@@ -1,9 +1,8 @@
 -- The ten rules are sound, in the table's words.
-use Rattle.std.proofs.Common.{◌≡◌, ℕ, ◌-◌, ◌<◌, ◌≤◌, Bool, true, ◌⊎◌, List, get_or, sym, refl, ap, subst, inl, inr, ⊎_elim, arith}
-use Rattle.logic.specs.declared.concept.Concept.{Concept}
+use Rattle.std.proofs.Common.{◌≡◌, ℕ, ◌-◌, ◌<◌, ◌≤◌, Bool, true, get_or, subst, ⊎_elim, arith}
 use Rattle.logic.specs.declared.concept.Concept.TheVariants.{Bottom, And, Or, Only, Exists}
 use Rattle.logic.specs.Concepts.{At}
-use Rattle.logic.specs.Roles.{inverse, Below, Transitive}
+use Rattle.logic.specs.Roles.{inverse, Transitive}
 use Rattle.logic.specs.Interpretations.{Interpretation, Element, Leads}
 use Rattle.logic.specs.Meaning.{LiesIn, in_only, in_exists}
 use Rattle.logic.specs.Laws.{Complements}
@@ -15,7 +14,7 @@ use Rattle.vocabulary.specs.Keeping.{Kept}
 use Rattle.vocabulary.specs.Pairing.{AreMates}
 use Rattle.vocabulary.specs.Roles.{role_axioms}
 use Rattle.vocabulary.specs.Vocabularies.{concepts}
-use Rattle.calculus.specs.Cases.{MeetsAxioms, Inhabits}
+use Rattle.calculus.specs.Cases.{MeetsAxioms}
 use Rattle.schemas.specs.Table.{Applies, bottom, clash, conjunction, disjunction, narrower, general, cut, inverse_cut, transitive_cut, neighbour, conclusions, Lists, kept, first_part, second_part, first_case, second_case, the_narrower, the_general, cut_p, cut_q, inverse_p, inverse_q, inverse_s, transitive_p, transitive_q, transitive_s, asked, passed, carried, of_all}
 
 module _ (v : Vocabulary) (I : Interpretation) (keeps : Kept v) (meets : MeetsAxioms I v) where

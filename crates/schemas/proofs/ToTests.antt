@@ -1,5 +1,5 @@
 -- What the table says, the tests of the house say.
-use Rattle.std.proofs.Common.{◌≡◌, ℕ, zero, suc, ◌-◌, ◌<◌, ◌≤◌, Bool, true, false, cond, ◌&&◌, ◌||◌, eqb, ltb, List, [], ◌∷◌, length, get_or, sym, refl, ap, ◌∙◌, subst, arith}
+use Rattle.std.proofs.Common.{◌≡◌, ℕ, zero, suc, ◌-◌, ◌<◌, ◌≤◌, Bool, true, ◌&&◌, ◌||◌, eqb, ltb, List, [], ◌∷◌, length, get_or, refl, ap, arith}
 use Rattle.std.proofs.lemmas.Bool.{and_from, or_left, or_right, eq-eqb, lt-ltb}
 use Rattle.bits.specs.Bits.{has}
 use Rattle.labels.specs.Labels.{among}
@@ -11,7 +11,7 @@ use Rattle.vocabulary.specs.Mates.{are_mates}
 use Rattle.vocabulary.specs.Roles.{is_below, is_transitive}
 use Rattle.vocabulary.specs.Vocabularies.{concepts, concept_at, is_axiom}
 use Rattle.schemas.specs.Table.{Applies, bottom, clash, conjunction, disjunction, narrower, general, cut, inverse_cut, transitive_cut, neighbour, conclusions, Lists, kept, first_part, second_part, first_case, second_case, the_narrower, the_general, cut_p, cut_q, inverse_p, inverse_q, inverse_s, transitive_p, transitive_q, transitive_s, asked, passed, carried, of_all}
-use Rattle.schemas.specs.Tests.{tagged, first_of, second_of, some_below}
+use Rattle.schemas.specs.Tests.{first_of, second_of, some_below}
 use Rattle.schemas.specs.House.{gives, house}
 use Rattle.schemas.proofs.Entries.{at_is, mates_true, below_true, transitive_true, axiom_true, only_role, exists_role, stands_below}
 use Rattle.schemas.proofs.SomeBelow.{there_some}

@@ -33,12 +33,24 @@ fn as_damaged(rt: &impl Abort, i: usize, at: usize, wrong: (u16, u16), reply: &R
     if i == at {
         let (from, _, _, _) = record(rt, at);
         assert_eq!(rt; reply.kind, kind, "kind {kind} of {size} at {from}");
-        assert_eq!(rt; told(reply.answer), Err((MALFORMED, from)), "kind {kind} of {size} at {from}");
+        assert_eq!(rt;
+            told(reply.answer),
+            Err((MALFORMED, from)),
+            "kind {kind} of {size} at {from}"
+        );
         return;
     }
     let (_, _, own, said) = record(rt, if i < at { i } else { i - 1 });
-    assert_eq!(rt; reply.kind, own, "record {i} with kind {kind} of {size} before {at}");
-    assert_eq!(rt; told(reply.answer), said, "record {i} with kind {kind} of {size} before {at}");
+    assert_eq!(rt;
+        reply.kind,
+        own,
+        "record {i} with kind {kind} of {size} before {at}"
+    );
+    assert_eq!(rt;
+        told(reply.answer),
+        said,
+        "record {i} with kind {kind} of {size} before {at}"
+    );
 }
 
 fn read_past(rt: &impl Abort, file: &[u8], at: usize, wrong: (u16, u16)) -> Result<(), Fail> {

@@ -91,7 +91,11 @@ fn as_cut(rt: &impl Abort, i: usize, n: usize, reply: &Reply) {
     }
     let seen = if n - from < 4 { 0 } else { kind };
     assert_eq!(rt; reply.kind, seen, "record {i}, cut to {n} bytes");
-    assert_eq!(rt; told(reply.answer), Err((MALFORMED, from)), "record {i}, cut to {n} bytes");
+    assert_eq!(rt;
+        told(reply.answer),
+        Err((MALFORMED, from)),
+        "record {i}, cut to {n} bytes"
+    );
 }
 
 fn cut_to(rt: &impl Abort, n: usize) -> Result<(), Fail> {
@@ -105,7 +109,8 @@ fn cut_to(rt: &impl Abort, n: usize) -> Result<(), Fail> {
     assert_eq!(rt; count(&whole[0..n]), begun, "cut to {n} bytes");
     assert_eq!(rt;
         told(hand_over(&mut docket, &whole[0..n], &mut replies)),
-        Ok(begun), "cut to {n} bytes"
+        Ok(begun),
+        "cut to {n} bytes"
     );
     for (i, reply) in replies[0..13].iter().enumerate() {
         as_cut(rt, i, n, reply);

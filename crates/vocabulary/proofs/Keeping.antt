@@ -1,5 +1,5 @@
 -- Filing and pairing keep what every vocabulary keeps.
-use Rattle.std.proofs.Common.{◌≡◌, ℕ, zero, suc, ◌*◌, ◌<◌, ◌≤◌, Bool, true, false, cond, ◌||◌, eqb, ltb, ◌⊎◌, List, [], ◌∷◌, ◌++◌, length, get_or, set, replicate, Some, None, Ok, Option, sym, refl, ap, ◌∙◌, subst, inl, inr, ⊎_elim, arith, length-set, get_or-set_other, get_or-set_same}
+use Rattle.std.proofs.Common.{◌≡◌, ℕ, zero, suc, ◌*◌, ◌<◌, ◌≤◌, Bool, true, false, cond, ◌||◌, eqb, ltb, ◌⊎◌, List, [], ◌∷◌, ◌++◌, length, get_or, set, replicate, Some, None, Ok, Option, sym, ap, ◌∙◌, subst, inl, inr, ⊎_elim, arith, length-set, get_or-set_other, get_or-set_same}
 use mathlib.Core.List.Memᴰ
 use mathlib.Core.List.{Memᴰ}
 use Rattle.std.proofs.lemmas.List.{get_or_append_left, get_or_push, length_push, length-replicate}
@@ -7,7 +7,7 @@ use Rattle.std.proofs.lemmas.Bool.{cases_eq, cases_lt, lt-ltb, eqb-true, eq-eqb}
 use Rattle.bits.specs.Bits.{has, inserted}
 use Rattle.bits.proofs.BitFacts.{has_inserted, length_inserted, has_zeros}
 use Rattle.register.specs.References.{Ordered}
-use Rattle.register.specs.Registers.{entries, room}
+use Rattle.register.specs.Registers.{room}
 use Rattle.register.proofs.Stores.{ordered_push}
 use Rattle.logic.specs.declared.concept.Concept.{Concept}
 use Rattle.logic.specs.declared.concept.Concept.TheVariants.{Top}
@@ -18,10 +18,9 @@ use Rattle.logic.proofs.Complements.{opposite_append}
 use Rattle.vocabulary.specs.declared.Vocabulary.{Vocabulary}
 use Rattle.vocabulary.specs.declared.mates.Mates.{Mates}
 use Rattle.vocabulary.specs.Mates.{mate, Joined}
-use Rattle.vocabulary.specs.Roles.{RolesKept}
 use Rattle.vocabulary.specs.Vocabularies.{concepts, axioms, New, ConceptFiled, RolesFiled, AxiomFiled, Paired}
-use Rattle.vocabulary.specs.Pairing.{AreMates, Pairable}
-use Rattle.vocabulary.specs.Keeping.{InRange, MatesKept, AxiomsStand, Kept}
+use Rattle.vocabulary.specs.Pairing.{AreMates}
+use Rattle.vocabulary.specs.Keeping.{InRange, MatesKept, Kept}
 use Rattle.vocabulary.proofs.Pairings.{or_cases, or_left, or_right, pairable_is_decided, negates_opposite}
 
 -- a new vocabulary

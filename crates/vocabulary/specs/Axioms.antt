@@ -1,5 +1,5 @@
 -- The axioms, as a list and as a row of bits.
-use Rattle.std.specs.Prelude.{◌≡◌, ℕ, ◌<◌, true, ◌↔◌, List, length, Some, None, Option}
+use Rattle.std.specs.Prelude.{◌≡◌, ℕ, ◌<◌, true, ◌↔◌, length, Some, None, Option}
 use mathlib.Core.List.{Memᴰ}
 use Rattle.register.specs.Lists.{listed, Added}
 use Rattle.bits.specs.Bits.{has, inserted}

@@ -1,5 +1,5 @@
 -- Which concepts are mates.
-use Rattle.std.specs.Prelude.{◌≡◌, ℕ, Bool, true, false, cond, ◌&&◌, List, Some, None, Option, ◌==◌, nat_lt, slice_index_or, slice_set}
+use Rattle.std.specs.Prelude.{◌≡◌, ℕ, Bool, false, cond, ◌&&◌, Some, None, Option, ◌==◌, nat_lt, slice_index_or, slice_set}
 use Rattle.vocabulary.specs.declared.mates.Mates.{Mates}
 
 -- the mate of concept c, if it has one

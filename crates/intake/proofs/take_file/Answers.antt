@@ -1,4 +1,4 @@
-use Rattle.std.proofs.Common.{◌≡◌, ℕ, ◌+◌, ◌<◌, ◌≤◌, length, take, set, sym, refl, subst, arith}
+use Rattle.std.proofs.Common.{ℕ, ◌+◌, ◌≤◌, length, take, set, sym, refl, subst, arith}
 use Rattle.records.proofs.Offsets.{Passed, lies_all, passed_more, passed_all}
 use Rattle.facts.proofs.ThreeFacts.{three_facts}
 use Rattle.intake.specs.declared.Reply.{Reply}

@@ -1,4 +1,4 @@
-use Rattle.std.proofs.Common.{◌≡◌, take, drop, sym, ap, ◌∙◌, subst, rules}
+use Rattle.std.proofs.Common.{take, drop, sym, ap, ◌∙◌, subst, rules}
 use Rattle.std.proofs.lemmas.List.{take_at, drop_at}
 use Rattle.labels.specs.Labels.{Row}
 use Rattle.docket.specs.Conclusions.{asked_label}

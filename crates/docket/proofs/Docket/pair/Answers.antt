@@ -1,5 +1,4 @@
-use Rattle.std.proofs.Common.{◌≡◌, ℕ, sym, ap, ◌∙◌, subst, arith, rules}
-use Rattle.vocabulary.specs.declared.Vocabulary.{Vocabulary}
+use Rattle.std.proofs.Common.{◌≡◌, ℕ, sym, ap, ◌∙◌, arith, rules}
 use Rattle.vocabulary.specs.Vocabularies.{pairable}
 use Rattle.docket.specs.declared.Docket.{Docket}
 use Rattle.docket.proofs.Answering.{pairs, never_pairs}

@@ -1,4 +1,4 @@
-use Rattle.std.proofs.Common.{◌≡◌, ℕ, ◌&&◌, eqb, length, sym, ap, arith}
+use Rattle.std.proofs.Common.{◌≡◌, ◌&&◌, eqb, length, sym, ap, arith}
 use Rattle.schemas.specs.House.{passes, carries}
 use Rattle.role_rules.proofs.Walking.{put_one, put_none, put_both}
 use Rattle.role_rules.proofs.neighbour.give.Goals as goal

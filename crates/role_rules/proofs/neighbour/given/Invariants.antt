@@ -1,4 +1,4 @@
-use Rattle.std.proofs.Common.{◌≡◌, ℕ, ◌-◌, ◌≤◌, ◌&&◌, ◌||◌, eqb, ltb, length}
+use Rattle.std.proofs.Common.{◌-◌, ◌≤◌, ◌&&◌, ◌||◌, eqb}
 use Rattle.bits.specs.Bits.{has}
 use Rattle.labels.specs.Labels.{Row}
 use Rattle.vocabulary.specs.Vocabularies.{is_axiom}

@@ -1,4 +1,4 @@
-use Rattle.std.proofs.Common.{◌≡◌, ℕ, ◌&&◌, eqb, length, arith, rules}
+use Rattle.std.proofs.Common.{◌≡◌, ℕ, eqb, length, arith, rules}
 use Rattle.schemas.specs.House.{passes}
 use Rattle.role_rules.proofs.Walking.{put_one}
 use Rattle.role_rules.proofs.neighbour.pass.Goals as goal

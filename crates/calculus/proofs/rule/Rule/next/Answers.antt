@@ -1,4 +1,4 @@
-use Rattle.std.proofs.Common.{◌&&◌, ltb, leb, ap, ◌∙◌}
+use Rattle.std.proofs.Common.{◌&&◌, leb, ap, ◌∙◌}
 use Rattle.std.proofs.lemmas.Bool.{lt-ltb}
 use Rattle.labels.proofs.LeastFacts.{least_ext}
 use Rattle.calculus.proofs.rule.Rule.next.Goals as goal

@@ -1,5 +1,4 @@
 use mathlib.Core.List.Memᴰ
-use Rattle.std.proofs.Common.{sym, refl}
 use Rattle.vocabulary.proofs.RoleTables.{transitive_none}
 use Rattle.vocabulary.proofs.roles.Roles.new.Goals as goal
 
