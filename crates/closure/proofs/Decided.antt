@@ -1,4 +1,4 @@
--- The test `below?` decides what is below what.
+-- The test `is_below` decides what is below what.
 use Rattle.std.proofs.Common.{ℕ, Bool, true, false, ◌&&◌, ◌||◌, T, eqb, ◌⊎◌, ◌↔◌, List, [], ◌∷◌, inl, inr, ⊎_elim, eqb→eq}
 use mathlib.Core.Logic.Iff
 use lib.Dec.{eqb_refl}
