@@ -6,21 +6,27 @@ use std::test::Fail;
 
 // Concepts by tag and numbers, one after the other, with the answers. Each table has a function of its own: a proof of
 // many rows at once is slow.
-fn as_said(rt: &impl Abort, docket: &mut Docket, rows: &[(u16, u16, u16, Said<usize>)]) {
+fn as_said(
+    rt: &impl Abort,
+    docket: &mut Docket,
+    sealed: bool,
+    rows: &[(u16, u16, u16, Said<usize>)],
+) {
     for (tag, a, b, said) in rows {
         assert_eq!(rt;
             told(docket.file_concept(*tag, *a, *b)),
             *said,
-            "concept {tag} {a} {b}"
+            "concept {tag} {a} {b}, sealed: {sealed}"
         );
     }
 }
 
 // Unused numbers are 0.
-fn unused(rt: &impl Abort, docket: &mut Docket) {
+fn unused(rt: &impl Abort, docket: &mut Docket, sealed: bool) {
     as_said(
         rt,
         docket,
+        sealed,
         &[
             (0, 1, 0, Err((3, 1))),
             (0, 0, 1, Err((3, 2))),
@@ -38,10 +44,11 @@ fn unused(rt: &impl Abort, docket: &mut Docket) {
 }
 
 // Names are below 1,024, and are seen before the number behind them.
-fn names(rt: &impl Abort, docket: &mut Docket) {
+fn names(rt: &impl Abort, docket: &mut Docket, sealed: bool) {
     as_said(
         rt,
         docket,
+        sealed,
         &[
             (2, 1024, 0, Err((3, 1))),
             (2, 65535, 0, Err((3, 1))),
@@ -54,10 +61,11 @@ fn names(rt: &impl Abort, docket: &mut Docket) {
 }
 
 // Parts stand, where one concept does.
-fn parts(rt: &impl Abort, docket: &mut Docket) {
+fn parts(rt: &impl Abort, docket: &mut Docket, sealed: bool) {
     as_said(
         rt,
         docket,
+        sealed,
         &[
             (4, 1, 0, Err((4, 1))),
             (4, 0, 1, Err((4, 2))),
@@ -75,10 +83,11 @@ fn parts(rt: &impl Abort, docket: &mut Docket) {
 }
 
 // Roles are below 128, and are seen before parts; tags are below 8, and are seen before all other numbers.
-fn roles_and_tags(rt: &impl Abort, docket: &mut Docket) {
+fn roles_and_tags(rt: &impl Abort, docket: &mut Docket, sealed: bool) {
     as_said(
         rt,
         docket,
+        sealed,
         &[
             (6, 128, 0, Err((3, 1))),
             (6, 128, 1, Err((3, 1))),
@@ -96,10 +105,11 @@ fn roles_and_tags(rt: &impl Abort, docket: &mut Docket) {
 }
 
 // What was refused took no number. Two concepts may be written alike, and a part may be the last concept, or both parts.
-fn taken(rt: &impl Abort, docket: &mut Docket) {
+fn taken(rt: &impl Abort, docket: &mut Docket, sealed: bool) {
     as_said(
         rt,
         docket,
+        sealed,
         &[
             (0, 0, 0, Ok(1)),
             (1, 0, 0, Ok(2)),
@@ -125,11 +135,11 @@ fn concepts_in(rt: &impl Abort, sealed: bool) -> Result<(), Fail> {
         assert_eq!(rt; told(docket.seal()), Ok(0));
     }
     assert_eq!(rt; told(docket.file_concept(0, 0, 0)), Ok(0));
-    unused(rt, &mut docket);
-    names(rt, &mut docket);
-    parts(rt, &mut docket);
-    roles_and_tags(rt, &mut docket);
-    taken(rt, &mut docket);
+    unused(rt, &mut docket, sealed);
+    names(rt, &mut docket, sealed);
+    parts(rt, &mut docket, sealed);
+    roles_and_tags(rt, &mut docket, sealed);
+    taken(rt, &mut docket, sealed);
     Ok(())
 }
 

@@ -42,24 +42,36 @@ const CONCEPTS: [(u16, u16, u16); 26] = [
 
 const NO: Said<usize> = Err((7, 0));
 
-// Pairings one after the other; with `turned` the second concept comes first.
-fn as_said(rt: &impl Abort, docket: &mut Docket, turned: bool, rows: &[(u16, u16, Said<usize>)]) {
+// How pairings are made: behind the seal or before it, and as they stand or with the second concept first.
+#[derive(Clone, Copy)]
+struct Way {
+    sealed: bool,
+    turned: bool,
+}
+
+// Pairings one after the other.
+fn as_said(rt: &impl Abort, docket: &mut Docket, way: Way, rows: &[(u16, u16, Said<usize>)]) {
+    let Way { sealed, turned } = way;
     for (c, d, said) in rows {
         let answer = if turned {
             docket.pair(*d, *c)
         } else {
             docket.pair(*c, *d)
         };
-        assert_eq!(rt; told(answer), *said, "pair {c} {d}, turned: {turned}");
+        assert_eq!(rt;
+            told(answer),
+            *said,
+            "pair {c} {d}, sealed: {sealed}, turned: {turned}"
+        );
     }
 }
 
 // A concept with itself, and concepts of one tag.
-fn alike(rt: &impl Abort, docket: &mut Docket, turned: bool) {
+fn alike(rt: &impl Abort, docket: &mut Docket, way: Way) {
     as_said(
         rt,
         docket,
-        turned,
+        way,
         &[
             (0, 0, NO),
             (1, 1, NO),
@@ -79,11 +91,11 @@ fn alike(rt: &impl Abort, docket: &mut Docket, turned: bool) {
 }
 
 // Concepts of tags that don't go together.
-fn unlike(rt: &impl Abort, docket: &mut Docket, turned: bool) {
+fn unlike(rt: &impl Abort, docket: &mut Docket, way: Way) {
     as_said(
         rt,
         docket,
-        turned,
+        way,
         &[
             (0, 4, NO),
             (0, 5, NO),
@@ -101,11 +113,11 @@ fn unlike(rt: &impl Abort, docket: &mut Docket, turned: bool) {
 }
 
 // Different names, and parts that aren't mates yet, first or second; and mates that are so already, both or one.
-fn too_early_and_too_late(rt: &impl Abort, docket: &mut Docket, turned: bool) {
+fn too_early_and_too_late(rt: &impl Abort, docket: &mut Docket, way: Way) {
     as_said(
         rt,
         docket,
-        turned,
+        way,
         &[
             (4, 7, NO),
             (6, 5, NO),
@@ -124,11 +136,11 @@ fn too_early_and_too_late(rt: &impl Abort, docket: &mut Docket, turned: bool) {
 }
 
 // Parts crossed over, second or first parts that aren't mates, equal parts, and another role, each before what can be paired.
-fn parts(rt: &impl Abort, docket: &mut Docket, turned: bool) {
+fn parts(rt: &impl Abort, docket: &mut Docket, way: Way) {
     as_said(
         rt,
         docket,
-        turned,
+        way,
         &[
             (8, 10, NO),
             (8, 11, NO),
@@ -196,18 +208,18 @@ fn file_all(rt: &impl Abort, docket: &mut Docket) {
     absent_refused(rt, docket);
 }
 
-fn pairings_in(rt: &impl Abort, sealed: bool, turned: bool) -> Result<(), Fail> {
+fn pairings_in(rt: &impl Abort, way: Way) -> Result<(), Fail> {
     let mut memory = [Concept::Top; 26];
     let mut lines = [blank(); 1];
     let mut docket = opened(&mut memory, &mut lines)?;
-    if sealed {
+    if way.sealed {
         assert_eq!(rt; told(docket.seal()), Ok(0));
     }
     file_all(rt, &mut docket);
-    alike(rt, &mut docket, turned);
-    unlike(rt, &mut docket, turned);
-    too_early_and_too_late(rt, &mut docket, turned);
-    parts(rt, &mut docket, turned);
+    alike(rt, &mut docket, way);
+    unlike(rt, &mut docket, way);
+    too_early_and_too_late(rt, &mut docket, way);
+    parts(rt, &mut docket, way);
     mates(rt, &docket);
     absent_refused(rt, &mut docket);
     Ok(())
@@ -216,8 +228,10 @@ fn pairings_in(rt: &impl Abort, sealed: bool, turned: bool) -> Result<(), Fail> 
 // In both phases, and in both orders of the two concepts.
 #[test]
 fn pairings(rt: HostRuntime) -> Result<(), Fail> {
-    pairings_in(&rt, false, false)?;
-    pairings_in(&rt, false, true)?;
-    pairings_in(&rt, true, false)?;
-    pairings_in(&rt, true, true)
+    for sealed in [false, true] {
+        for turned in [false, true] {
+            pairings_in(&rt, Way { sealed, turned })?;
+        }
+    }
+    Ok(())
 }

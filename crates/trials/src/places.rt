@@ -7,27 +7,27 @@ use std::process::Abort;
 use std::test::Fail;
 
 // Nothing was filed and nothing sealed, and every place is as it was.
-fn nothing_changed(rt: &impl Abort, docket: &mut Docket, replies: &[Reply]) {
+fn nothing_changed(rt: &impl Abort, n: usize, docket: &mut Docket, replies: &[Reply]) {
     for reply in replies.iter() {
         is_untouched(rt, reply);
     }
-    assert_eq!(rt; told(docket.is_below(0, 2)), Err((2, 0)));
-    assert_eq!(rt; told(docket.mate(0)), Err((4, 0)));
-    assert_eq!(rt; told(docket.file_concept(0, 0, 0)), Ok(0));
-    assert_eq!(rt; told(docket.file_inclusion(0, 4)), Ok(0));
-    assert_eq!(rt; told(docket.file_axiom(0)), Ok(0));
-    assert_eq!(rt; told(docket.seal()), Ok(0));
-    assert_eq!(rt; told(docket.is_below(0, 2)), Ok(false));
+    assert_eq!(rt; told(docket.is_below(0, 2)), Err((2, 0)), "{n} places");
+    assert_eq!(rt; told(docket.mate(0)), Err((4, 0)), "{n} places");
+    assert_eq!(rt; told(docket.file_concept(0, 0, 0)), Ok(0), "{n} places");
+    assert_eq!(rt; told(docket.file_inclusion(0, 4)), Ok(0), "{n} places");
+    assert_eq!(rt; told(docket.file_axiom(0)), Ok(0), "{n} places");
+    assert_eq!(rt; told(docket.seal()), Ok(0), "{n} places");
+    assert_eq!(rt; told(docket.is_below(0, 2)), Ok(false), "{n} places");
 }
 
 // All was taken as the file says.
-fn all_taken(rt: &impl Abort, docket: &Docket) {
-    assert_eq!(rt; told(docket.is_below(1, 3)), Ok(true));
-    assert_eq!(rt; told(docket.is_transitive(3)), Ok(true));
-    assert_eq!(rt; told(docket.is_transitive(0)), Ok(false));
-    assert_eq!(rt; told(docket.mate(1)), Ok(Some(0)));
-    assert_eq!(rt; told(docket.mate(2)), Ok(None));
-    assert_eq!(rt; told(docket.mate(3)), Err((4, 0)));
+fn all_taken(rt: &impl Abort, n: usize, docket: &Docket) {
+    assert_eq!(rt; told(docket.is_below(1, 3)), Ok(true), "{n} places");
+    assert_eq!(rt; told(docket.is_transitive(3)), Ok(true), "{n} places");
+    assert_eq!(rt; told(docket.is_transitive(0)), Ok(false), "{n} places");
+    assert_eq!(rt; told(docket.mate(1)), Ok(Some(0)), "{n} places");
+    assert_eq!(rt; told(docket.mate(2)), Ok(None), "{n} places");
+    assert_eq!(rt; told(docket.mate(3)), Err((4, 0)), "{n} places");
 }
 
 // Thirteen records, and `n` of the places for replies.
@@ -41,11 +41,11 @@ fn with_some(
     let answer = hand_over(docket, &file(), &mut replies[0..n]);
     if n < 13 {
         assert_eq!(rt; told(answer), Err((3, 1)), "{n} places");
-        nothing_changed(rt, docket, replies);
+        nothing_changed(rt, n, docket, replies);
         return Ok(());
     }
     assert_eq!(rt; told(answer), Ok(13), "{n} places");
-    all_taken(rt, docket);
+    all_taken(rt, n, docket);
     // the place behind the last reply
     is_untouched(rt, replies.get(13).ok_or("no such place")?);
     Ok(())
@@ -66,7 +66,7 @@ fn without_places(rt: &impl Abort) -> Result<(), Fail> {
     let mut docket = opened(&mut memory, &mut lines)?;
     assert_eq!(rt; told(hand_over(&mut docket, &[], &mut [])), Ok(0));
     assert_eq!(rt; told(hand_over(&mut docket, &[6], &mut [])), Err((3, 1)));
-    nothing_changed(rt, &mut docket, &[]);
+    nothing_changed(rt, 0, &mut docket, &[]);
     Ok(())
 }
 
