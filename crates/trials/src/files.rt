@@ -13,9 +13,10 @@ pub const UNTOUCHED: Reply = Reply {
     answer: Ok(999),
 };
 
-pub fn is_untouched(rt: &impl Abort, reply: &Reply) {
-    assert_eq!(rt; reply.kind, 999);
-    assert_eq!(rt; told(reply.answer), Ok(999));
+// Nothing was written to this place, in turn `n` of the test.
+pub fn is_untouched(rt: &impl Abort, n: usize, reply: &Reply) {
+    assert_eq!(rt; reply.kind, 999, "turn {n}");
+    assert_eq!(rt; told(reply.answer), Ok(999), "turn {n}");
 }
 
 // The records of the table below, one to a line.
@@ -86,7 +87,7 @@ fn as_cut(rt: &impl Abort, i: usize, n: usize, reply: &Reply) {
         return;
     }
     if from >= n {
-        is_untouched(rt, reply);
+        is_untouched(rt, n, reply);
         return;
     }
     let seen = if n - from < 4 { 0 } else { kind };
@@ -115,7 +116,7 @@ fn cut_to(rt: &impl Abort, n: usize) -> Result<(), Fail> {
     for (i, reply) in replies[0..13].iter().enumerate() {
         as_cut(rt, i, n, reply);
     }
-    is_untouched(rt, &replies[13]);
+    is_untouched(rt, n, &replies[13]);
     Ok(())
 }
 

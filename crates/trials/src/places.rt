@@ -9,7 +9,7 @@ use std::test::Fail;
 // Nothing was filed and nothing sealed, and every place is as it was.
 fn nothing_changed(rt: &impl Abort, n: usize, docket: &mut Docket, replies: &[Reply]) {
     for reply in replies.iter() {
-        is_untouched(rt, reply);
+        is_untouched(rt, n, reply);
     }
     assert_eq!(rt; told(docket.is_below(0, 2)), Err((2, 0)), "{n} places");
     assert_eq!(rt; told(docket.mate(0)), Err((4, 0)), "{n} places");
@@ -47,7 +47,7 @@ fn with_some(
     assert_eq!(rt; told(answer), Ok(13), "{n} places");
     all_taken(rt, n, docket);
     // the place behind the last reply
-    is_untouched(rt, replies.get(13).ok_or("no such place")?);
+    is_untouched(rt, n, replies.get(13).ok_or("no such place")?);
     Ok(())
 }
 
