@@ -1,5 +1,5 @@
 -- Bits of a word, and of a row of words.
-use Rattle.std.proofs.Common.{◌≡◌, ℕ, zero, suc, ◌+◌, ◌-◌, ◌*◌, ◌/◌, ◌%◌, ◌^◌, ◌<◌, ◌≤◌, min, max, true, false, ◌&&◌, ◌||◌, eqb, ◌≢◌, List, length, get_or, replicate, sym, refl, ap, ◌∙◌, subst, ⊎_elim, pow-suc, arith}
+use Rattle.std.proofs.Common.{◌≡◌, ℕ, zero, suc, ◌+◌, ◌-◌, ◌*◌, ◌/◌, ◌%◌, ◌^◌, ◌<◌, ◌≤◌, min, max, true, false, ◌&&◌, ◌||◌, eqb, ◌≢◌, List, length, get_or, replicate, sym, refl, ap, ◌∙◌, subst, ⊎_elim, pow-suc, arith, pow_mono}
 use mathlib.Core.Bool.{or-false, or-true}
 use native.Mathlib.Nat.{zero-div}
 use lib.Bits.{bit_and, bit_or, and_step, or_step, and_shr, or_shr}
@@ -109,3 +109,10 @@ has_zeros n c = ap (λ w. bit w (c % 64)) (⊎_elim inside past (cases_lt (c / 6
 
     past : n ≤ c / 64 → ◌≡◌ {A = ℕ} (get_or (replicate n 0) (c / 64) 0) 0
     past l = get_or_past {X = ℕ} (replicate n 0) (c / 64) 0 (rw (length-replicate {A = ℕ} n 0) l)
+
+-- a word of 64 bits has none from 64 on
+pub bit_past : (x j : ℕ) → x < 2 ^ 64 → 64 ≤ j → bit x j ≡ false
+bit_past x j small l =
+    let large : 2 ^ 64 ≤ 2 ^ j = pow_mono {i = 64} {j = j} l in
+    let e : x / 2 ^ j ≡ 0 = (let b = div_below x (2 ^ j) 1 (pow_pos j) (omega arith) in omega arith) in
+    rw e refl

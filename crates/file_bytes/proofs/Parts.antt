@@ -1,12 +1,8 @@
 -- Numbers and parts at the end of a string of bytes.
 use Rattle.std.proofs.Common.{◌≡◌, ℕ, ◌+◌, ◌-◌, ◌*◌, ◌<◌, ◌≤◌, min, List, length, get_or, take, drop, sym, ap, ◌∙◌, ⊎_elim, arith}
-use Rattle.std.proofs.lemmas.List.{get_or_past, get_or-take, get_or-drop, take_all, take_rest, drop_all}
+use Rattle.std.proofs.lemmas.List.{get_or-take, get_or-drop, take_all, take_rest, drop_all}
 use Rattle.std.proofs.lemmas.Bool.{cases_lt}
 use Rattle.file_bytes.specs.Bytes.{word, part, field}
-
--- behind the end every number is 0
-pub word_past : (f : List ℕ) (i : ℕ) → length f ≤ i → word f i ≡ 0
-word_past f i h = omega (arith, get_or_past f i 0 h, get_or_past f (i + 1) 0 (omega arith))
 
 -- what is taken ends with the list
 take_min : (n : ℕ) (f : List ℕ) → take (min n (length f)) f ≡ take n f
@@ -23,10 +19,10 @@ drop_min n f = ⊎_elim
 
 -- a part that is cut within the bounds
 pub cut_part : (f : List ℕ) (i n a b : ℕ) → a ≡ min i (length f) → b ≡ min n (length (take (length f - a) (drop a f)))
-    → take (b - 0) (take (length f - a) (drop a f)) ≡ part f i n
+    → take b (take (length f - a) (drop a f)) ≡ part f i n
 cut_part f i n a b p q =
     let rest : take (length f - a) (drop a f) ≡ drop i f = take_rest f a ∙ ap (λ k. drop k f) p ∙ drop_min i f in
-    let z : b - 0 ≡ min n (length (drop i f)) = omega (arith, ap length rest) in
+    let z : b ≡ min n (length (drop i f)) = omega (arith, ap length rest) in
     rw (rest, z) (take_min n (drop i f))
 
 -- a field of a part is a number of the whole

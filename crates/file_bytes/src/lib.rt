@@ -1,5 +1,7 @@
 #![tactic(auto)]
 
+pub mod iter;
+
 ghost use Rattle.std.specs.Prelude.{◌≡◌, slice_index};
 ghost use Rattle.file_bytes.specs.Bytes.{part, word, field};
 
@@ -7,27 +9,21 @@ ghost use Rattle.file_bytes.specs.Bytes.{part, word, field};
 fn byte(bytes: &[u8], at: usize) -> u8
     ensures { result ≡ slice_index bytes.now at }
 {
-    if at < bytes.len() { bytes[at] } else { 0 }
+    bytes.get(at).copied().unwrap_or(0)
 }
 
 // The number in the two bytes from this place on, the low byte first.
 pub fn word(bytes: &[u8], at: usize) -> u16
     ensures { result ≡ word bytes.now at }
 {
-    if at >= bytes.len() {
-        return 0;
-    }
-    byte(bytes, at) as u16 + 256 * byte(bytes, at + 1) as u16
+    u16::from_le_bytes([byte(bytes, at), byte(bytes, at.saturating_add(1))])
 }
 
 // The two-byte number with this index. Bytes that the part doesn't have count as 0.
 pub fn field(bytes: &[u8], index: usize) -> u16
     ensures { result ≡ field bytes.now index }
 {
-    if index >= bytes.len() {
-        return 0;
-    }
-    word(bytes, 2 * index)
+    word(bytes, index.saturating_mul(2))
 }
 
 // The bytes from this place on, `count` of them or as many as there are.
@@ -35,5 +31,5 @@ pub fn cut(bytes: &[u8], from: usize, count: usize) -> &[u8]
     ensures { result.now ≡ part bytes.now from count }
 {
     let rest = &bytes[from.min(bytes.len())..];
-    &rest[0..count.min(rest.len())]
+    &rest[..count.min(rest.len())]
 }

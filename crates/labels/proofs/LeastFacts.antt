@@ -1,6 +1,8 @@
 -- The least number that passes a test.
-use Rattle.std.proofs.Common.{◌≡◌, ℕ, zero, suc, ◌+◌, ◌<◌, ◌≤◌, Bool, true, false, Some, None, Option, sym, refl, ap, ◌∙◌, ⊎_elim, add-one, arith}
-use Rattle.std.proofs.lemmas.Bool.{cases_lt}
+use Rattle.std.proofs.Common.{◌≡◌, ℕ, zero, suc, ◌+◌, ◌<◌, ◌≤◌, Bool, true, false, cond, ltb, List, length, get_or, Some, None, Option, sym, refl, ap, ◌∙◌, ⊎_elim, add-one, arith}
+use Rattle.std.specs.List.{position_or_len}
+use Rattle.std.proofs.lemmas.Bool.{cases_lt, lt-ltb, le-ltb}
+use Rattle.std.proofs.lemmas.List.Sums.{fails_before_first, passes_at_first}
 use Rattle.labels.specs.Least.{found_or, least}
 
 pub least_none : (f : ℕ → Bool) → least 0 f ≡ None
@@ -66,3 +68,20 @@ least_ext (suc n) f g h =
 -- none below a number, none below a smaller one
 pub least_below : (m n : ℕ) (f : ℕ → Bool) → m ≤ n → least n f ≡ None → least m f ≡ None
 least_below m n f l h = all_least m f (λ c k. least_all n f h c (omega arith))
+
+-- the first place of a list at which the test passes, as the library says it
+pub position_least : {A : Type 0} (test : A → Bool) (xs : List A) (d : A)
+    → cond (ltb (position_or_len test xs) (length xs)) (Some (position_or_len test xs)) None ≡ least (length xs) (λ i. test (get_or xs i d))
+position_least test xs d = ⊎_elim
+    (λ (l : p < length xs). rw (lt-ltb p (length xs) l) (sym (least_here (length xs) p at (all_least p at before) (passes_at_first test xs d l) l)))
+    (λ (l : length xs ≤ p). rw (le-ltb p (length xs) l) (sym (all_least (length xs) at (λ k h. before k (omega arith)))))
+    (cases_lt p (length xs))
+  where
+    p : ℕ
+    p = position_or_len test xs
+
+    at : ℕ → Bool
+    at i = test (get_or xs i d)
+
+    before : (k : ℕ) → k < p → at k ≡ false
+    before k h = fails_before_first test xs k d h

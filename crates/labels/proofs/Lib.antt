@@ -1,5 +1,5 @@
 pub mod LeastFacts
-pub mod Positions
+pub mod Walking
 pub mod RowFacts
 pub mod Inclusion
 pub mod WordSearch

@@ -1,4 +1,4 @@
--- A row that is written word by word.
+-- A row whose words are known one by one.
 use Rattle.std.proofs.Common.{◌≡◌, ℕ, ◌+◌, ◌*◌, ◌/◌, ◌%◌, ◌<◌, ◌≤◌, Bool, ◌&&◌, ltb, List, length, get_or, set, sym, ap, ◌∙◌, subst, ⊎_elim, arith, below_more}
 use Rattle.std.proofs.lemmas.List.{get_or-set_same, get_or-set_other}
 use Rattle.std.proofs.lemmas.Bool.{cases_lt, lt-ltb, le-ltb}
@@ -7,15 +7,6 @@ use Rattle.bits.proofs.BitFacts.{has_past}
 use Rattle.labels.specs.Labels.{Row}
 use Rattle.labels.proofs.WordSearch.{Tests}
 
--- one word more
-pub words_more : (r : List ℕ) (w word : ℕ) (test : ℕ → Bool) → w < length r → ((v : ℕ) → v < w → Tests (get_or r v 0) v test) → Tests word w test
-    → (v : ℕ) → v < w + 1 → Tests (get_or (set r w word) v 0) v test
-words_more r w word test l before here =
-    below_more (λ v. Tests (get_or (set r w word) v 0) v test) w
-    (λ v h. subst (λ n. Tests n v test) (sym (get_or-set_other r w v word 0 (omega arith))) (before v h))
-    (subst (λ n. Tests n w test) (sym (get_or-set_same r w word 0 l)) here)
-
--- all of the words
 pub words_row : (r : List ℕ) (test : ℕ → Bool) → length r ≡ 16 → ((w : ℕ) → w < 16 → Tests (get_or r w 0) w test) → Row r test
 words_row r test size words = (size, λ c. ⊎_elim (inside c) (past c) (cases_lt c 1024))
   where

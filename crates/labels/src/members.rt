@@ -1,30 +1,19 @@
-ghost use Rattle.std.specs.Prelude.{◌≡◌, ◌-◌, ◌/◌, ◌<◌, ◌&&◌, length, IfSome, nat_le, nat_lt};
-ghost use Rattle.file_bytes.specs.Bytes.{field, numbers};
+ghost use Rattle.std.specs.Prelude.{◌≡◌, ◌/◌, ◌<◌, length, IfSome};
+ghost use Rattle.file_bytes.specs.Bytes.{numbers};
 ghost use Rattle.labels.specs.Labels.{absent_at, falling_at, row};
 
 use bits::insert;
-use file_bytes::field;
+use file_bytes::iter::Numbers;
 
 // A label as it is given: its members, two bytes for each.
 
 // The first position whose member is not below the count.
+#[tactic(auto, using(file_bytes::proofs::Numbers::numbers_length))]
 pub fn first_absent(members: &[u8], count: usize) -> Option<usize>
     ensures is { result ≡ absent_at count (numbers members.now) }
     ensures below { IfSome result (λ i. i < length members.now / 2) }
 {
-    for i in 0..members.len() / 2 {
-        if field(members, i) as usize >= count {
-            return Some(i);
-        }
-    }
-    None
-}
-
-// Whether the member at this position is not above the one before it.
-fn falls(members: &[u8], i: usize) -> bool
-    ensures { result ≡ (nat_lt 0 i && nat_le (field members.now i) (field members.now (i - 1))) }
-{
-    i > 0 && field(members, i) <= field(members, i - 1)
+    Numbers::of(members).position(|member| member as usize >= count)
 }
 
 // The first position whose member is not above the one before it.
@@ -32,10 +21,13 @@ pub fn first_falling(members: &[u8]) -> Option<usize>
     ensures is { result ≡ falling_at (numbers members.now) }
     ensures below { IfSome result (λ i. i < length members.now / 2) }
 {
-    for i in 0..members.len() / 2 {
-        if falls(members, i) {
+    // what the next member has to reach
+    let mut floor = 0;
+    for (i, member) in Numbers::of(members).enumerate() {
+        if (member as u32) < floor {
             return Some(i);
         }
+        floor = member as u32 + 1;
     }
     None
 }
@@ -45,8 +37,8 @@ pub fn row_of(members: &[u8]) -> [u64; 16]
     ensures { result ≡ row (numbers members.now) }
 {
     let mut row = [0; 16];
-    for i in 0..members.len() / 2 {
-        insert(&mut row, field(members, i) as usize);
+    for member in Numbers::of(members) {
+        insert(&mut row, member as usize);
     }
     row
 }

@@ -3,6 +3,9 @@ ghost use Rattle.bits.specs.Bits.{bit, has};
 ghost use Rattle.labels.specs.Labels.{Row, outside, next_from};
 ghost use Rattle.labels.specs.Least.{least};
 
+use bits::low_bits;
+use std::array;
+
 // A label as it is kept: a row of sixteen words. It is looked through word by word, never bit by bit.
 
 // The lowest bit of a word.
@@ -49,20 +52,9 @@ pub fn next_from(row: &[u64; 16], c: u16) -> Option<u16>
     None
 }
 
-// A word with its `k` low bits set; a word has 64.
-fn low_bits(k: usize) -> u64
-    ensures { result ≡ 2 ^ (min 64 k) - 1 }
-{
-    if k < 64 { (1 << k) - 1 } else { u64::MAX }
-}
-
 // The row without the concepts from the count upward.
 pub fn cut_to(row: &[u64; 16], count: usize) -> [u64; 16]
     ensures { Row result (λ c. nat_lt c count && has row.now c) }
 {
-    let mut cut = [0; 16];
-    for w in 0..16 {
-        cut[w] = row[w] & low_bits(count.saturating_sub(64 * w));
-    }
-    cut
+    array::from_fn(|w| row[w] & low_bits(count.saturating_sub(64 * w)))
 }

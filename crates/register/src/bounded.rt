@@ -1,17 +1,29 @@
-ghost use Rattle.std.specs.Prelude.{◌≡◌, []};
-ghost use Rattle.register.specs.Lists.{listed, Added};
+ghost use Rattle.std.specs.Prelude.{◌≡◌, ◌≤◌, [], length, nat_le};
+ghost use Rattle.register.specs.Lists.{Added};
 
-// A list of at most N items, held in place.
+use std::marker::Model;
+
+// A list of at most N items, held in place. Contracts see the list of its items, in the order in which they were added.
 #[derive(Drop)]
 pub struct Bounded<T, const N: usize> {
     items: [T; N],
     count: usize,
 }
 
+impl<T, const N: usize> Model for Bounded<T, N> {
+    ghost use Rattle.std.specs.Prelude.{◌≡◌, ◌≤◌, List, length, take};
+
+    ghost Value = { List T };
+
+    ghost view = { λ b. take b.count b.items };
+
+    ghost invariant = { λ b. (b.count ≤ N) × (length b.items ≡ N) };
+}
+
 impl<T: Copy, const N: usize> Bounded<T, N> {
     // An empty list; `blank` fills the places that no item has taken.
     pub fn new(blank: T) -> Bounded<T, N>
-        ensures { listed result ≡ [] }
+        ensures { result ≡ [] }
     {
         Bounded {
             items: [blank; N],
@@ -19,24 +31,27 @@ impl<T: Copy, const N: usize> Bounded<T, N> {
         }
     }
 
-    // The items, in the order in which they were added.
+    // The items.
     pub fn list(&self) -> &[T]
-        ensures { result.now ≡ listed self.now }
+        ensures items { result.now ≡ self.now }
+        ensures few { length result.now ≤ N }
     {
-        let whole = &self.items[..];
-        if self.count < whole.len() {
-            &whole[0..self.count]
-        } else {
-            whole
-        }
+        &self.items[..self.count]
+    }
+
+    // Whether no place is free.
+    pub fn is_full(&self) -> bool
+        ensures { result ≡ nat_le N (length self.now) }
+    {
+        self.count == N
     }
 
     // Adds an item at the end and answers its number; None if the list is full.
     pub fn add(&mut self, item: T) -> Option<usize>
-        ensures { Added self.old self.new item result }
+        ensures { Added N self.old self.new item result }
     {
-        let number = self.list().len();
-        if number >= N {
+        let number = self.count;
+        if number == N {
             return None;
         }
         self.items[number] = item;

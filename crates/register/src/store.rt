@@ -14,7 +14,7 @@ pub struct Register<'a, E> {
 }
 
 // Why a register doesn't take an entry.
-#[derive(Clone, Copy)]
+#[derive(Clone, Copy, Debug, PartialEq, Eq)]
 pub enum Unfit {
     // it refers to an entry that isn't there
     Refers,
@@ -45,12 +45,7 @@ impl<'a, E: Entry + Copy> Register<'a, E> {
     pub fn entries(&self) -> &[E]
         ensures { result.now ≡ entries self.now }
     {
-        let whole = self.slots.len();
-        if self.used < whole {
-            &self.slots[0..self.used]
-        } else {
-            &self.slots[0..whole]
-        }
+        &self.slots[..self.used.min(self.slots.len())]
     }
 
     // How many entries it holds.
@@ -64,12 +59,7 @@ impl<'a, E: Entry + Copy> Register<'a, E> {
     pub fn get(&self, number: usize) -> Option<E>
         ensures { MatchOption result (length (entries self.now) ≤ number) (λ e. (number < length (entries self.now)) × ((d : E) → e ≡ slice_index_or (entries self.now) number d)) }
     {
-        let entries = self.entries();
-        if number < entries.len() {
-            Some(entries[number])
-        } else {
-            None
-        }
+        self.entries().get(number).copied()
     }
 
     // Takes one entry more, and answers its number.

@@ -1,17 +1,36 @@
 #![tactic(auto)]
 
-ghost use Rattle.std.specs.Prelude.{◌≡◌, ◌-◌, ◌*◌, ◌^◌, ◌<◌, min, false, ◌&&◌, ◌||◌, ◌==◌, nat_lt};
-ghost use Rattle.rows.specs.Rows.{HasRow, contains, turned, RowBecomes};
+ghost use Rattle.std.specs.Prelude.{◌≡◌, ◌*◌, ◌<◌, false, ◌&&◌, ◌||◌, ◌==◌, nat_lt};
+ghost use Rattle.rows.specs.Rows.{HasRow, contains, turned, IsRow, RowBecomes, RowWritten};
+
+use bits::{bit, low_bits};
+use std::array;
 
 // Sets of elements, each in a row of four words. Row c has the words 4c to 4c + 3, and the elements are 0 to 255:
 // element e is bit e mod 64 of word 4c + e div 64.
+
+// The words of row `c`.
+fn row(rows: &[u64], c: usize) -> [u64; 4]
+    requires { HasRow rows.now c }
+    ensures { IsRow rows.now c result }
+{
+    array::from_fn(|w| rows[4 * c + w])
+}
+
+// Row `c` becomes these words.
+fn write(rows: &mut [u64], c: usize, row: [u64; 4])
+    requires { HasRow rows.old c }
+    ensures { RowWritten rows.old rows.new c row }
+{
+    rows[4 * c..4 * c + 4].copy_from_slice(&row);
+}
 
 // Whether row `c` contains the element.
 pub fn contains(rows: &[u64], c: usize, element: usize) -> bool
     requires { (HasRow rows.now c) × (element < 256) }
     ensures { result ≡ contains rows.now c element }
 {
-    (rows[4 * c + element / 64] >> (element % 64)) % 2 == 1
+    bit(rows[4 * c + element / 64], element % 64)
 }
 
 // Puts the element into row `c`.
@@ -27,9 +46,7 @@ pub fn clear(rows: &mut [u64], c: usize)
     requires { HasRow rows.old c }
     ensures { RowBecomes rows.old rows.new c (λ _. false) }
 {
-    for w in 0..4 {
-        rows[4 * c + w] = 0;
-    }
+    write(rows, c, [0; 4]);
 }
 
 // Row `c` becomes what the earlier rows `a` and `b` share.
@@ -37,9 +54,8 @@ pub fn intersect(rows: &mut [u64], c: usize, a: usize, b: usize)
     requires { (HasRow rows.old c) × ((a < c) × (b < c)) }
     ensures { RowBecomes rows.old rows.new c (λ e. contains rows.old a e && contains rows.old b e) }
 {
-    for w in 0..4 {
-        rows[4 * c + w] = rows[4 * a + w] & rows[4 * b + w];
-    }
+    let (x, y) = (row(rows, a), row(rows, b));
+    write(rows, c, array::from_fn(|w| x[w] & y[w]));
 }
 
 // Row `c` becomes what the earlier rows `a` and `b` have together.
@@ -47,18 +63,8 @@ pub fn unite(rows: &mut [u64], c: usize, a: usize, b: usize)
     requires { (HasRow rows.old c) × ((a < c) × (b < c)) }
     ensures { RowBecomes rows.old rows.new c (λ e. contains rows.old a e || contains rows.old b e) }
 {
-    for w in 0..4 {
-        rows[4 * c + w] = rows[4 * a + w] | rows[4 * b + w];
-    }
-}
-
-// Word `w` of the row that has the first `n` elements.
-fn full_word(n: usize, w: usize) -> u64
-    requires { w < 4 }
-    ensures { result ≡ 2 ^ (min 64 (n - 64 * w)) - 1 }
-{
-    let k = n.saturating_sub(64 * w);
-    if k >= 64 { u64::MAX } else { (1 << k) - 1 }
+    let (x, y) = (row(rows, a), row(rows, b));
+    write(rows, c, array::from_fn(|w| x[w] | y[w]));
 }
 
 // Row `c` becomes its complement among the first `n` elements; the others stay as they were.
@@ -66,7 +72,6 @@ pub fn complement(rows: &mut [u64], c: usize, n: usize)
     requires { HasRow rows.old c }
     ensures { RowBecomes rows.old rows.new c (λ e. turned (nat_lt e n) (contains rows.old c e)) }
 {
-    for w in 0..4 {
-        rows[4 * c + w] ^= full_word(n, w);
-    }
+    let x = row(rows, c);
+    write(rows, c, array::from_fn(|w| x[w] ^ low_bits(n.saturating_sub(64 * w))));
 }

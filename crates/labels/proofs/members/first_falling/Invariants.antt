@@ -1,8 +1,14 @@
-use Rattle.std.proofs.Common.{◌≡◌, None}
+use Rattle.std.proofs.Common.{◌≡◌, ◌+◌, ◌-◌, ◌<◌, ◌≤◌, length, drop, get_or, None}
 use Rattle.file_bytes.specs.Bytes.{numbers}
 use Rattle.labels.specs.Labels.{falls}
 use Rattle.labels.specs.Least.{least}
 use Rattle.labels.proofs.members.first_falling.Given as goal
 
 abbrev pub invariant-loop-i : goal.invariant-loop-i
-invariant-loop-i l = least l.i (falls (numbers l.members)) ≡ None
+invariant-loop-i l = record {
+  within : l.i-iterator.count ≤ length (numbers l.members);
+  left : numbers l.i-iterator.iter.rest.now ≡ drop l.i-iterator.count (numbers l.members);
+  none : least l.i-iterator.count (falls (numbers l.members)) ≡ None;
+  first : l.i-iterator.count ≡ 0 → l.floor ≡ 0;
+  later : 0 < l.i-iterator.count → l.floor ≡ get_or (numbers l.members) (l.i-iterator.count - 1) 0 + 1;
+}
