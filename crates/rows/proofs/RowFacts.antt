@@ -1,38 +1,29 @@
--- Rows that are written word by word, and one element more in a row.
-use Rattle.std.proofs.Common.{◌≡◌, ℕ, ◌+◌, ◌-◌, ◌*◌, ◌/◌, ◌%◌, ◌^◌, ◌<◌, ◌≤◌, min, Bool, ◌||◌, eqb, ltb, ◌≢◌, List, get_or, set, sym, refl, ap, ◌∙◌, subst, ap₂, ⊎_elim, arith, get_or-set_other, get_or-set_same}
+-- A row that is written, and one element more in a row.
+use Rattle.std.proofs.Common.{◌≡◌, ℕ, ◌+◌, ◌-◌, ◌*◌, ◌/◌, ◌%◌, ◌^◌, ◌<◌, min, Bool, true, false, ◌||◌, eqb, ltb, ◌≢◌, List, get_or, set, sym, refl, ap, ◌∙◌, subst, ap₂, ⊎_elim, arith, get_or-set_other}
+use mathlib.Core.Bool.{xor}
 use lib.Bits.{bit_or}
 use Rattle.std.proofs.lemmas.Nat.{one_shl}
 use Rattle.std.proofs.lemmas.Bool.{cases_eq, cases_lt, eq-eqb, ne_eqb, lt-ltb, le-ltb}
 use Rattle.bits.specs.Bits.{bit, has, inserted}
 use Rattle.bits.proofs.BitFacts.{has_inserted}
-use Rattle.rows.specs.Rows.{HasRow, contains, RowBecomes}
-use Rattle.rows.proofs.WordFacts.{bit_ones}
+use Rattle.bits.proofs.Words.{bit_ones}
+use Rattle.rows.specs.Rows.{HasRow, contains, turned, RowWritten, RowBecomes}
 
--- the words of row c below w are as g says, and the others as they were
-pub record WordsWritten (old new : List ℕ) (c : ℕ) (g : ℕ → ℕ) (w : ℕ) : Type 0 where
-  pub done : (v : ℕ) → v < w → v < 4 → get_or new (4 * c + v) 0 ≡ g v
-  pub still : (v : ℕ) → w ≤ v → v < 4 → get_or new (4 * c + v) 0 ≡ get_or old (4 * c + v) 0
-  pub others : (i : ℕ) → i / 4 ≢ c → get_or new i 0 ≡ get_or old i 0
-
-pub words_none : (old : List ℕ) (c : ℕ) (g : ℕ → ℕ) → WordsWritten old old c g 0
-words_none old c g = record { done = λ v h k. absurd (omega arith); still = λ v h k. refl; others = λ i n. refl }
-
-pub words_more : (old new : List ℕ) (c : ℕ) (g : ℕ → ℕ) (w x : ℕ) → HasRow new c → w < 4 → WordsWritten old new c g w → x ≡ g w →
-    WordsWritten old (set new (4 * c + w) x) c g (w + 1)
-words_more old new c g w x l hw p ex = record {
-  done = λ v h k. ⊎_elim
-      (λ (e : v ≡ w). subst (λ u. get_or (set new (4 * c + w) x) (4 * c + u) 0 ≡ g u) (sym e) (get_or-set_same new (4 * c + w) x 0 (omega arith) ∙ ex))
-      (λ (n : v ≡ w → ⊥). get_or-set_other new (4 * c + w) (4 * c + v) x 0 (omega arith) ∙ p.done v (omega arith) k) (cases_eq v w);
-  still = λ v h k. get_or-set_other new (4 * c + w) (4 * c + v) x 0 (omega arith) ∙ p.still v (omega arith) k;
-  others = λ i n. get_or-set_other new (4 * c + w) i x 0 (omega arith) ∙ p.others i n;
+-- a row that was written has the elements of its words
+pub row_written : (old new : List ℕ) (c : ℕ) (row : List ℕ) (f : ℕ → Bool) → RowWritten old new c row → ((e : ℕ) → e < 256 → bit (get_or row (e / 64) 0) (e % 64) ≡ f e)
+    → RowBecomes old new c f
+row_written old new c row f written bits = record {
+  elements = λ e l. ap (λ x. bit x (e % 64)) (written.words (e / 64) (omega arith)) ∙ bits e l;
+  others = written.others;
 }
 
-pub words_all : (old new : List ℕ) (c : ℕ) (g : ℕ → ℕ) (w : ℕ) (f : ℕ → Bool) → 4 ≤ w → WordsWritten old new c g w →
-    ((e : ℕ) → e < 256 → bit (g (e / 64)) (e % 64) ≡ f e) → RowBecomes old new c f
-words_all old new c g w f h p b = record {
-  elements = λ e l. ap (λ x. bit x (e % 64)) (p.done (e / 64) (omega arith) (omega arith)) ∙ b e l;
-  others = p.others;
-}
+-- a bit is turned round where another is set
+pub xor_turned : (a b : Bool) → xor a b ≡ turned b a
+unfolding xor
+xor_turned true true = refl
+xor_turned true false = refl
+xor_turned false true = refl
+xor_turned false false = refl
 
 -- element e in its word of the row that has the first n elements
 pub full_bit : (n e : ℕ) → e < 256 → bit (2 ^ (min 64 (n - 64 * (e / 64))) - 1) (e % 64) ≡ ltb e n

@@ -73,5 +73,9 @@ pub fn complement(rows: &mut [u64], c: usize, n: usize)
     ensures { RowBecomes rows.old rows.new c (λ e. turned (nat_lt e n) (contains rows.old c e)) }
 {
     let x = row(rows, c);
-    write(rows, c, array::from_fn(|w| x[w] ^ low_bits(n.saturating_sub(64 * w))));
+    write(
+        rows,
+        c,
+        array::from_fn(|w| x[w] ^ low_bits(n.saturating_sub(64 * w))),
+    );
 }

@@ -1,14 +1,15 @@
-use Rattle.std.proofs.Common.{◌+◌, ◌*◌, ◌/◌, ◌%◌, get_or, ap₂, arith}
+use Rattle.std.proofs.Common.{ℕ, ◌+◌, ◌*◌, ◌/◌, ◌%◌, get_or, ap, ◌∙◌, ap₂, arith, rules}
 use lib.Bits.{bit_or}
+use Rattle.bits.specs.Bits.{bit}
+use Rattle.bits.proofs.Arrays.{made_at}
 use Rattle.bits.proofs.BitFacts.{bit-bit_or}
-use Rattle.rows.proofs.RowFacts.{words_none, words_more, words_all}
+use Rattle.rows.proofs.RowFacts.{row_written}
 use Rattle.rows.proofs.unite.Goals as goal
 
-pub loop-w-init : goal.loop-w-init
-loop-w-init c = words_none _ _ _
-
-pub loop-w-preserved : goal.loop-w-preserved
-loop-w-preserved c = words_more _ _ _ _ _ _ (omega arith) (omega arith) c.loop-w.invariant (ap₂ bit_or (c.loop-w.invariant.others _ (omega arith)) (c.loop-w.invariant.others _ (omega arith)))
-
 pub returns : goal.returns
-returns c = words_all _ _ _ _ _ _ (omega arith) c.loop-w.invariant (λ e h. bit-bit_or (get_or c.args.rows.now (4 * c.args.a + e / 64) 0) (get_or c.args.rows.now (4 * c.args.b + e / 64) 0) (e % 64))
+returns c = row_written _ _ _ c.from_fn.result _ c.write.ensures (λ e l.
+    let rows = c.args.rows.now in
+    let word = λ (v : ℕ). bit_or (get_or c.row-x.result v 0) (get_or c.row-y.result v 0) in
+    let made = made_at _ _ word (λ i y q k. search rules) c.from_fn.result 4 c.from_fn.ensures.items (e / 64) (omega arith) in
+    let read = ap₂ bit_or (c.row-x.ensures.words (e / 64) (omega arith)) (c.row-y.ensures.words (e / 64) (omega arith)) in
+    ap (λ x. bit x (e % 64)) (made ∙ read) ∙ bit-bit_or (get_or rows (4 * c.args.a + e / 64) 0) (get_or rows (4 * c.args.b + e / 64) 0) (e % 64))
