@@ -1,11 +1,14 @@
 #![tactic(auto)]
 
-ghost use Rattle.std.specs.Prelude.{◌≡◌, ◌≤◌, [], length, nat_le};
+ghost use Rattle.std.specs.Prelude.{◌≡◌, ◌≤◌, [], length, nat_le, slice_get};
+ghost use Rattle.std.specs.Option.{is_some};
 ghost use Rattle.claims.specs.declared.Status.TheVariants.{Open, Empty, Inhabited};
-ghost use Rattle.claims.specs.Claiming.{filed, claim_at, is_unsettled, tallied, same_status, Added, Settled};
+ghost use Rattle.claims.specs.Claiming.{filed, is_unsettled, tallied, Added, Settled};
+
+use register::bounded::Bounded;
 
 // What has become of a claim.
-#[derive(Clone, Copy)]
+#[derive(Clone, Copy, Debug, PartialEq, Eq)]
 pub enum Status {
     Open,
     // no interpretation that meets the axioms has an element in all of its label
@@ -21,52 +24,31 @@ pub struct Claim {
     pub status: Status,
 }
 
-// The most claims.
-const MOST: usize = 256;
-
-// The claims, in filing order.
-#[derive(Drop)]
-pub struct Claims {
-    list: [Claim; 256],
-    count: usize,
-}
-
-// 1 where the two are the same, else 0.
-fn one_if_same(a: Status, b: Status) -> usize
-    ensures is { result ≡ same_status a b }
-    ensures small { result ≤ 1 }
-{
-    match (a, b) {
-        (Status::Open, Status::Open) => 1,
-        (Status::Empty, Status::Empty) => 1,
-        (Status::Inhabited, Status::Inhabited) => 1,
-        _ => 0,
-    }
-}
-
 impl Claim {
     // Whether it is neither empty nor inhabited yet.
     pub fn is_open(&self) -> bool
         ensures { result ≡ is_unsettled self.now.status }
     {
-        match self.status {
-            Status::Open => true,
-            Status::Empty | Status::Inhabited => false,
-        }
+        self.status == Status::Open
     }
+}
+
+// The claims, in filing order: at most 256.
+#[derive(Drop)]
+pub struct Claims {
+    list: Bounded<Claim, 256>,
 }
 
 impl Claims {
     // No claim.
     pub fn new() -> Claims
-        ensures { (filed result ≡ []) × (result.count ≡ 0) }
+        ensures { filed result ≡ [] }
     {
         Claims {
-            list: [Claim {
+            list: Bounded::new(Claim {
                 label: [0; 16],
                 status: Status::Open,
-            }; 256],
-            count: 0,
+            }),
         }
     }
 
@@ -75,12 +57,7 @@ impl Claims {
         ensures is { result.now ≡ filed self.now }
         ensures few { length result.now ≤ 256 }
     {
-        let whole = &self.list[..];
-        if self.count < whole.len() {
-            &whole[0..self.count]
-        } else {
-            whole
-        }
+        self.list.list()
     }
 
     // How many claims there are.
@@ -90,71 +67,57 @@ impl Claims {
         self.list().len()
     }
 
-    // The claim with this number; an open one with the empty label if there is none.
-    pub fn claim(&self, number: u16) -> Claim
-        ensures { result ≡ claim_at self.now number }
+    // The claim with this number, if there is one.
+    pub fn get(&self, number: u16) -> Option<Claim>
+        ensures { result ≡ slice_get (filed self.now) number }
     {
-        let list = self.list();
-        let number = number as usize;
-        if number < list.len() {
-            list[number]
-        } else {
-            Claim {
-                label: [0; 16],
-                status: Status::Open,
-            }
-        }
+        self.list().get(number as usize).copied()
     }
 
     // Whether no claim more can be filed.
     pub fn is_full(&self) -> bool
-        ensures { result ≡ nat_le 256 self.now.count }
+        ensures { result ≡ nat_le 256 (length (filed self.now)) }
     {
-        self.count >= MOST
+        self.list.is_full()
     }
 
     // Files an open claim with this label; None if the list is full.
     pub fn add(&mut self, label: [u64; 16]) -> Option<usize>
         ensures { Added self.old self.new label result }
     {
-        let number = self.count;
-        if number >= MOST {
-            return None;
-        }
-        self.list[number] = Claim {
+        self.list.add(Claim {
             label,
             status: Status::Open,
-        };
-        self.count = number + 1;
-        Some(number)
+        })
     }
 
-    // Settles a claim, which keeps its label; false if there is none with this number.
-    pub fn settle(&mut self, number: u16, status: Status) -> bool
-        ensures { Settled self.old self.new number status result }
+    // Settles a claim, which keeps its label; None if there is none with this number.
+    pub fn settle(&mut self, number: u16, status: Status) -> Option<()>
+        ensures { Settled self.old self.new number status (is_some result) }
     {
-        let at = number as usize;
-        let label = self.claim(number).label;
-        if at >= self.list().len() {
-            return false;
-        }
-        self.list[at] = Claim { label, status };
-        true
+        let claim = self.get(number)?;
+        self.list.set(number as usize, Claim { status, ..claim });
+        Some(())
+    }
+
+    // How many claims have this status.
+    fn count(&self, status: Status) -> usize
+        ensures { result ≡ tallied status (filed self.now) }
+    {
+        self.list()
+            .iter()
+            .filter(|claim| claim.status == status)
+            .count()
     }
 
     // The open, the empty and the inhabited claims.
     pub fn tally(&self) -> (usize, usize, usize)
         ensures { result ≡ (tallied Open (filed self.now), tallied Empty (filed self.now), tallied Inhabited (filed self.now)) }
     {
-        let list = self.list();
-        let mut open = 0;
-        let mut empty = 0;
-        let mut inhabited = 0;
-        for claim in list {
-            open += one_if_same(Status::Open, claim.status);
-            empty += one_if_same(Status::Empty, claim.status);
-            inhabited += one_if_same(Status::Inhabited, claim.status);
-        }
-        (open, empty, inhabited)
+        (
+            self.count(Status::Open),
+            self.count(Status::Empty),
+            self.count(Status::Inhabited),
+        )
     }
 }

@@ -1,5 +1,5 @@
 -- An entry more at the end of what is used.
-use Rattle.std.proofs.Common.{◌≡◌, ℕ, ◌+◌, ◌<◌, ◌≤◌, true, List, [], ◌∷◌, ◌++◌, length, take, set, ap, ⊎_elim, arith}
+use Rattle.std.proofs.Common.{◌≡◌, ℕ, zero, suc, ◌+◌, ◌<◌, ◌≤◌, true, List, [], ◌∷◌, ◌++◌, length, take, set, refl, ap, ⊎_elim, arith}
 use Rattle.std.proofs.lemmas.List.{take_more_set, length-take-le, take_all, get_or_append_left, get_or_push, length_push}
 use Rattle.std.proofs.lemmas.Bool.{cases_lt}
 use Rattle.register.specs.References.{all_below, Ordered}
@@ -24,3 +24,10 @@ ordered_push references es e all here k d h = ⊎_elim
     let q : length es ≡ k = omega (arith, length_push es e) in
     rw (get_or_push es e d k q, ← q) here)
     (cases_lt k (length es))
+
+-- an item written among the used ones
+pub take_set : {E : Type 0} (n : ℕ) (xs : List E) (i : ℕ) (x : E) → take n (set xs i x) ≡ set (take n xs) i x
+take_set zero xs i x = refl
+take_set (suc n) [] i x = refl
+take_set (suc n) (y ∷ ys) zero x = refl
+take_set (suc n) (y ∷ ys) (suc i) x = ap (λ zs. y ∷ zs) (take_set n ys i x)

@@ -1,4 +1,4 @@
-ghost use Rattle.std.specs.Prelude.{◌≡◌, ◌≤◌, [], length, nat_le};
+ghost use Rattle.std.specs.Prelude.{◌≡◌, ◌≤◌, [], length, nat_le, slice_set};
 ghost use Rattle.register.specs.Lists.{Added};
 
 use std::marker::Model;
@@ -57,5 +57,14 @@ impl<T: Copy, const N: usize> Bounded<T, N> {
         self.items[number] = item;
         self.count = number + 1;
         Some(number)
+    }
+
+    // Puts an item in the place of the one with the number `at`, if there is one.
+    pub fn set(&mut self, at: usize, item: T)
+        ensures { self.new ≡ slice_set self.old at item }
+    {
+        if at < self.count {
+            self.items[at] = item;
+        }
     }
 }
