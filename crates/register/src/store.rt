@@ -25,7 +25,9 @@ pub enum Unfit {
 impl<'a, E: Entry + Copy> Register<'a, E> {
     // An empty register over the host's memory: it can hold `capacity` entries, or fewer if the memory is shorter.
     pub fn over(slots: &'a mut [E], capacity: usize) -> Register<'a, E>
-        ensures { (result.slots ≡ slots.entry) × (entries result ≡ []) × (room result ≡ min capacity (length slots.old)) }
+        ensures lender { result.slots ≡ slots.entry }
+        ensures none { entries result ≡ [] }
+        ensures room { room result ≡ min capacity (length slots.old) }
     {
         Register {
             slots,

@@ -1,6 +1,6 @@
 -- The role axioms that were filed, and the tables that answer for them.
 use Rattle.std.specs.Prelude.{◌≡◌, ℕ, ◌/◌, ◌<◌, Bool, ◌&&◌, T, ◌↔◌, List, Some, None, Option, nat_lt}
-use Rattle.register.specs.Lists.{listed, Added}
+use Rattle.register.specs.Lists.{Added}
 use Rattle.bits.specs.Bits.{bit}
 use Rattle.logic.specs.declared.role.RoleAxiom.{RoleAxiom}
 use Rattle.logic.specs.Roles.{Transitive, AllNameBelow}
@@ -9,7 +9,7 @@ use Rattle.vocabulary.specs.declared.roles.Roles.{Roles}
 
 -- the role axioms, in filing order
 abbrev pub role_axioms : Roles → List RoleAxiom
-role_axioms r = listed r.axioms
+role_axioms r = r.axioms
 
 -- what the tables answer
 abbrev pub is_below : Roles → ℕ → ℕ → Bool
@@ -26,5 +26,5 @@ pub record RolesKept (x : Roles) : Type 0 where
 
 -- x becomes y as the axiom a is filed: it stands at the end of the list, and the tables go on saying what the axioms say
 abbrev pub RoleAxiomFiled : Roles → Roles → RoleAxiom → Option ℕ → Type 0
-RoleAxiomFiled x y a (Some i) = Added x.axioms y.axioms a (Some i) × (RolesKept x → RolesKept y)
-RoleAxiomFiled x y a None = Added x.axioms y.axioms a None × (y ≡ x)
+RoleAxiomFiled x y a (Some i) = Added 256 x.axioms y.axioms a (Some i) × (RolesKept x → RolesKept y)
+RoleAxiomFiled x y a None = Added 256 x.axioms y.axioms a None × (y ≡ x)

@@ -2,7 +2,6 @@
 use Rattle.std.specs.Prelude.{◌≡◌, ℕ, Bool, true, false, cond, ◌&&◌, ◌||◌, List, [], length, replicate, Some, None, Option, Result, ◌==◌, nat_lt, slice_index_or}
 use Rattle.register.specs.declared.store.Unfit.{Unfit}
 use Rattle.register.specs.Registers.{entries, Pushed}
-use Rattle.register.specs.Lists.{listed}
 use Rattle.bits.specs.Bits.{has}
 use Rattle.logic.specs.declared.concept.Concept.{Concept}
 use Rattle.logic.specs.declared.concept.Concept.TheVariants.{Top}
@@ -24,7 +23,7 @@ concept_at v c = cond (nat_lt c (length (concepts v))) (Some (slice_index_or (co
 
 -- the concepts that hold of every element, in filing order
 abbrev pub axioms : Vocabulary → List ℕ
-axioms v = listed v.axioms.list
+axioms v = v.axioms.list
 
 -- whether concept c is an axiom, by the row
 abbrev pub is_axiom : Vocabulary → ℕ → Bool

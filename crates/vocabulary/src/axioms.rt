@@ -1,5 +1,4 @@
 ghost use Rattle.std.specs.Prelude.{◌≡◌, [], replicate};
-ghost use Rattle.register.specs.Lists.{listed};
 ghost use Rattle.bits.specs.Bits.{has};
 ghost use Rattle.vocabulary.specs.Axioms.{AxiomAdded};
 
@@ -17,7 +16,8 @@ pub struct Axioms {
 impl Axioms {
     // No axiom.
     pub fn new() -> Axioms
-        ensures { (listed result.list ≡ []) × (result.row ≡ replicate 16 0) }
+        ensures list { result.list ≡ [] }
+        ensures row { result.row ≡ replicate 16 0 }
     {
         Axioms {
             list: Bounded::new(0),
@@ -27,7 +27,7 @@ impl Axioms {
 
     // The axioms, in filing order.
     pub fn list(&self) -> &[u16]
-        ensures { result.now ≡ listed self.now.list }
+        ensures { result.now ≡ self.now.list }
     {
         self.list.list()
     }

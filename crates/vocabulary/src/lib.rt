@@ -5,6 +5,7 @@ pub mod mates;
 pub mod roles;
 
 ghost use Rattle.std.specs.Prelude.{◌≡◌, min, length};
+ghost use Rattle.std.specs.Option.{is_some};
 ghost use Rattle.register.specs.Registers.{entries, room};
 ghost use Rattle.logic.specs.Roles.{NamesBelow};
 ghost use Rattle.vocabulary.specs.Mates.{mate, are_mates};
@@ -30,7 +31,9 @@ pub struct Vocabulary<'a> {
 impl<'a> Vocabulary<'a> {
     // An empty vocabulary, whose concepts lie in the host's memory.
     pub fn over(slots: &'a mut [Concept], capacity: usize) -> Vocabulary<'a>
-        ensures { New result × (room result.concepts ≡ min capacity (length slots.old)) × (result.concepts.slots ≡ slots.entry) }
+        ensures new { New result }
+        ensures room { room result.concepts ≡ min capacity (length slots.old) }
+        ensures lender { result.concepts.slots ≡ slots.entry }
     {
         Vocabulary {
             roles: Roles::new(),
@@ -167,20 +170,20 @@ impl<'a> Vocabulary<'a> {
         if self.mate(c).is_some() || self.mate(d).is_some() {
             return false;
         }
-        match (self.concept(c), self.concept(d)) {
-            (Some(j), Some(k)) => self.opposed(j, k) || self.opposed(k, j),
-            _ => false,
-        }
+        let (Some(j), Some(k)) = (self.concept(c), self.concept(d)) else {
+            return false;
+        };
+        self.opposed(j, k) || self.opposed(k, j)
     }
 
-    // Pairs the two, if they can be paired.
-    pub fn pair(&mut self, c: u16, d: u16) -> bool
-        ensures { Paired self.old self.new c d result }
+    // Pairs the two; None if they can't be paired.
+    pub fn pair(&mut self, c: u16, d: u16) -> Option<()>
+        ensures { Paired self.old self.new c d (is_some result) }
     {
-        let can = self.pairable(c, d);
-        if can {
-            self.mates.join(c, d);
+        if !self.pairable(c, d) {
+            return None;
         }
-        can
+        self.mates.join(c, d);
+        Some(())
     }
 }

@@ -22,21 +22,14 @@ impl Mates {
     pub fn mate(&self, c: u16) -> Option<u16>
         ensures { result ≡ mate self.now c }
     {
-        if (c as usize) < CONCEPTS {
-            self.of[c as usize]
-        } else {
-            None
-        }
+        *self.of.get(c as usize)?
     }
 
     // Whether the two are mates.
     pub fn are_mates(&self, c: u16, d: u16) -> bool
         ensures { result ≡ are_mates self.now c d }
     {
-        match self.mate(c) {
-            Some(m) => m == d,
-            None => false,
-        }
+        self.mate(c) == Some(d)
     }
 
     // Makes the two mates of each other.

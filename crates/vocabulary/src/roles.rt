@@ -2,6 +2,7 @@ ghost use Rattle.std.specs.Prelude.{◌≡◌, ◌&&◌, []};
 ghost use Rattle.logic.specs.Roles.{NamesBelow};
 ghost use Rattle.vocabulary.specs.Roles.{role_axioms, is_below, is_transitive, RolesKept, RoleAxiomFiled};
 
+use bits::bit;
 use closure;
 use logic::role::{ROLES, RoleAxiom};
 use register::bounded::Bounded;
@@ -19,7 +20,8 @@ pub struct Roles {
 impl Roles {
     // No axiom: each role is below itself alone, and none is transitive.
     pub fn new() -> Roles
-        ensures { (role_axioms result ≡ []) × RolesKept result }
+        ensures none { role_axioms result ≡ [] }
+        ensures kept { RolesKept result }
     {
         let mut below = [0; 256];
         closure::start(&mut below, ROLES);
@@ -49,7 +51,7 @@ impl Roles {
     pub fn is_transitive(&self, r: u16) -> bool
         ensures { result ≡ is_transitive self.now r }
     {
-        (r as usize) < ROLES && (self.transitive >> (r / 2)) % 2 == 1
+        (r as usize) < ROLES && bit(self.transitive, r as usize / 2)
     }
 
     // Files a role axiom; None if the list is full.
