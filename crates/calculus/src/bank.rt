@@ -51,15 +51,15 @@ impl<R: Rule> Bank for Single<R> {
     ghost lawful = { λ b. alone_lawful (R.Rule.schema b.rule) (R.Rule.lawful b.rule) };
 
     fn has(&self, rule: u16) -> bool {
-        rule == self.rule.number()
+        rule == R::RULE_NUMBER
     }
 
     fn cites(&self, rule: u16) -> u8 {
-        self.rule.cites()
+        R::CITED_LINES
     }
 
     fn applies(&self, rule: u16, v: &Vocabulary, on: Principals, x: &[u64; 16]) -> bool {
-        rule == self.rule.number() && self.rule.applies(v, on, x)
+        rule == R::RULE_NUMBER && self.rule.applies(v, on, x)
     }
 
     fn conclusion(

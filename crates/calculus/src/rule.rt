@@ -18,21 +18,18 @@ pub struct Principals {
 // A rule of the calculus. It says when a step applies to a label, and which standing concepts its conclusions have. It
 // refuses nothing, and asking alters nothing.
 pub trait Rule {
-    // Its number, and how many lines a step by it cites: 0 to 2.
+    // Its number.
     const RULE_NUMBER: u16;
 
+    ghost RULE_NUMBER: { ℕ };
+
+    // How many lines a step by it cites, which is how many conclusions it has: 0 to 2.
     const CITED_LINES: u8;
+
+    ghost CITED_LINES: { ℕ };
 
     // what the rule says
     ghost schema: { Self → Schema };
-
-    // Its number, where a contract can speak of it.
-    fn number(&self) -> u16
-        ensures { result ≡ (schema self.now).number };
-
-    // How many lines a step by this rule cites, which is how many conclusions it has.
-    fn cites(&self) -> u8
-        ensures { result ≡ (schema self.now).cites };
 
     // Whether the step applies to the label `x`.
     fn applies(&self, v: &Vocabulary, on: Principals, x: &[u64; 16]) -> bool
@@ -57,6 +54,11 @@ pub trait Rule {
         let row = self.conclusion(v, on, x, i);
         next_from(&row, c)
     }
+
+    // the constants are what it says
+    ghost has_number: { (r : Self) → (schema r).number ≡ RULE_NUMBER };
+
+    ghost has_count: { (r : Self) → (schema r).cites ≡ CITED_LINES };
 
     // if an element has all of the label, and the step applies, some element has all of one of the conclusions
     ghost lawful: { (r : Self) → Lawful (schema r) };

@@ -1,3 +1,4 @@
+ghost use Rattle.std.specs.Prelude.{refl};
 ghost use Rattle.schemas.specs.House.{cut};
 ghost use Rattle.schemas.proofs.Agreement.{cut_lawful};
 
@@ -12,19 +13,19 @@ pub struct CutRule {}
 impl Rule for CutRule {
     const RULE_NUMBER: u16 = 7;
 
+    ghost RULE_NUMBER = { 7 };
+
     const CITED_LINES: u8 = 2;
+
+    ghost CITED_LINES = { 2 };
 
     ghost schema = { λ _. cut };
 
+    ghost has_number = { λ _. refl };
+
+    ghost has_count = { λ _. refl };
+
     ghost lawful = { λ r. cut_lawful };
-
-    fn number(&self) -> u16 {
-        Self::RULE_NUMBER
-    }
-
-    fn cites(&self) -> u8 {
-        Self::CITED_LINES
-    }
 
     fn applies(&self, v: &Vocabulary, on: Principals, x: &[u64; 16]) -> bool {
         v.are_mates(on.p, on.q) && on.s == 0

@@ -1,3 +1,4 @@
+ghost use Rattle.std.specs.Prelude.{refl};
 ghost use Rattle.schemas.specs.House.{inverse_cut};
 ghost use Rattle.schemas.proofs.Agreement.{inverse_cut_lawful};
 
@@ -15,19 +16,19 @@ pub struct InverseCutRule {}
 impl Rule for InverseCutRule {
     const RULE_NUMBER: u16 = 8;
 
+    ghost RULE_NUMBER = { 8 };
+
     const CITED_LINES: u8 = 2;
+
+    ghost CITED_LINES = { 2 };
 
     ghost schema = { λ _. inverse_cut };
 
+    ghost has_number = { λ _. refl };
+
+    ghost has_count = { λ _. refl };
+
     ghost lawful = { λ r. inverse_cut_lawful };
-
-    fn number(&self) -> u16 {
-        Self::RULE_NUMBER
-    }
-
-    fn cites(&self) -> u8 {
-        Self::CITED_LINES
-    }
 
     fn applies(&self, v: &Vocabulary, on: Principals, x: &[u64; 16]) -> bool {
         match v.concept(on.s) {

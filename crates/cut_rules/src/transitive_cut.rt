@@ -1,3 +1,4 @@
+ghost use Rattle.std.specs.Prelude.{refl};
 ghost use Rattle.schemas.specs.House.{transitive_cut};
 ghost use Rattle.schemas.proofs.Agreement.{transitive_cut_lawful};
 
@@ -15,19 +16,19 @@ pub struct TransitiveCutRule {}
 impl Rule for TransitiveCutRule {
     const RULE_NUMBER: u16 = 9;
 
+    ghost RULE_NUMBER = { 9 };
+
     const CITED_LINES: u8 = 2;
+
+    ghost CITED_LINES = { 2 };
 
     ghost schema = { λ _. transitive_cut };
 
+    ghost has_number = { λ _. refl };
+
+    ghost has_count = { λ _. refl };
+
     ghost lawful = { λ r. transitive_cut_lawful };
-
-    fn number(&self) -> u16 {
-        Self::RULE_NUMBER
-    }
-
-    fn cites(&self) -> u8 {
-        Self::CITED_LINES
-    }
 
     fn applies(&self, v: &Vocabulary, on: Principals, x: &[u64; 16]) -> bool {
         match (v.concept(on.p), v.concept(on.s)) {

@@ -1,3 +1,4 @@
+ghost use Rattle.std.specs.Prelude.{refl};
 ghost use Rattle.schemas.specs.House.{bottom};
 ghost use Rattle.schemas.proofs.Agreement.{bottom_lawful};
 
@@ -14,19 +15,19 @@ pub struct BottomRule {}
 impl Rule for BottomRule {
     const RULE_NUMBER: u16 = 1;
 
+    ghost RULE_NUMBER = { 1 };
+
     const CITED_LINES: u8 = 0;
+
+    ghost CITED_LINES = { 0 };
 
     ghost schema = { λ _. bottom };
 
+    ghost has_number = { λ _. refl };
+
+    ghost has_count = { λ _. refl };
+
     ghost lawful = { λ r. bottom_lawful };
-
-    fn number(&self) -> u16 {
-        Self::RULE_NUMBER
-    }
-
-    fn cites(&self) -> u8 {
-        Self::CITED_LINES
-    }
 
     fn applies(&self, v: &Vocabulary, on: Principals, x: &[u64; 16]) -> bool {
         match v.concept(on.p) {

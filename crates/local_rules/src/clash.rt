@@ -1,3 +1,4 @@
+ghost use Rattle.std.specs.Prelude.{refl};
 ghost use Rattle.schemas.specs.House.{clash};
 ghost use Rattle.schemas.proofs.Agreement.{clash_lawful};
 
@@ -13,19 +14,19 @@ pub struct ClashRule {}
 impl Rule for ClashRule {
     const RULE_NUMBER: u16 = 2;
 
+    ghost RULE_NUMBER = { 2 };
+
     const CITED_LINES: u8 = 0;
+
+    ghost CITED_LINES = { 0 };
 
     ghost schema = { λ _. clash };
 
+    ghost has_number = { λ _. refl };
+
+    ghost has_count = { λ _. refl };
+
     ghost lawful = { λ r. clash_lawful };
-
-    fn number(&self) -> u16 {
-        Self::RULE_NUMBER
-    }
-
-    fn cites(&self) -> u8 {
-        Self::CITED_LINES
-    }
 
     fn applies(&self, v: &Vocabulary, on: Principals, x: &[u64; 16]) -> bool {
         has(x, on.p as usize) && has(x, on.q as usize) && v.are_mates(on.p, on.q) && on.s == 0

@@ -1,3 +1,4 @@
+ghost use Rattle.std.specs.Prelude.{refl};
 ghost use Rattle.schemas.specs.House.{conjunction};
 ghost use Rattle.schemas.proofs.Agreement.{conjunction_lawful};
 
@@ -14,19 +15,19 @@ pub struct ConjunctionRule {}
 impl Rule for ConjunctionRule {
     const RULE_NUMBER: u16 = 3;
 
+    ghost RULE_NUMBER = { 3 };
+
     const CITED_LINES: u8 = 1;
+
+    ghost CITED_LINES = { 1 };
 
     ghost schema = { λ _. conjunction };
 
+    ghost has_number = { λ _. refl };
+
+    ghost has_count = { λ _. refl };
+
     ghost lawful = { λ r. conjunction_lawful };
-
-    fn number(&self) -> u16 {
-        Self::RULE_NUMBER
-    }
-
-    fn cites(&self) -> u8 {
-        Self::CITED_LINES
-    }
 
     fn applies(&self, v: &Vocabulary, on: Principals, x: &[u64; 16]) -> bool {
         match v.concept(on.p) {

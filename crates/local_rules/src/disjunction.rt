@@ -1,3 +1,4 @@
+ghost use Rattle.std.specs.Prelude.{refl};
 ghost use Rattle.schemas.specs.House.{disjunction};
 ghost use Rattle.schemas.proofs.Agreement.{disjunction_lawful};
 
@@ -14,19 +15,19 @@ pub struct DisjunctionRule {}
 impl Rule for DisjunctionRule {
     const RULE_NUMBER: u16 = 4;
 
+    ghost RULE_NUMBER = { 4 };
+
     const CITED_LINES: u8 = 2;
+
+    ghost CITED_LINES = { 2 };
 
     ghost schema = { λ _. disjunction };
 
+    ghost has_number = { λ _. refl };
+
+    ghost has_count = { λ _. refl };
+
     ghost lawful = { λ r. disjunction_lawful };
-
-    fn number(&self) -> u16 {
-        Self::RULE_NUMBER
-    }
-
-    fn cites(&self) -> u8 {
-        Self::CITED_LINES
-    }
 
     fn applies(&self, v: &Vocabulary, on: Principals, x: &[u64; 16]) -> bool {
         match v.concept(on.p) {

@@ -1,3 +1,4 @@
+ghost use Rattle.std.specs.Prelude.{refl};
 ghost use Rattle.schemas.specs.House.{general};
 ghost use Rattle.schemas.proofs.Agreement.{general_lawful};
 
@@ -12,19 +13,19 @@ pub struct GeneralRule {}
 impl Rule for GeneralRule {
     const RULE_NUMBER: u16 = 6;
 
+    ghost RULE_NUMBER = { 6 };
+
     const CITED_LINES: u8 = 1;
+
+    ghost CITED_LINES = { 1 };
 
     ghost schema = { λ _. general };
 
+    ghost has_number = { λ _. refl };
+
+    ghost has_count = { λ _. refl };
+
     ghost lawful = { λ r. general_lawful };
-
-    fn number(&self) -> u16 {
-        Self::RULE_NUMBER
-    }
-
-    fn cites(&self) -> u8 {
-        Self::CITED_LINES
-    }
 
     fn applies(&self, v: &Vocabulary, on: Principals, x: &[u64; 16]) -> bool {
         v.is_axiom(on.p) && on.q == 0 && on.s == 0

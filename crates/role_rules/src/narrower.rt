@@ -1,3 +1,4 @@
+ghost use Rattle.std.specs.Prelude.{refl};
 ghost use Rattle.schemas.specs.House.{narrower};
 ghost use Rattle.schemas.proofs.Agreement.{narrower_lawful};
 
@@ -14,19 +15,19 @@ pub struct NarrowerRule {}
 impl Rule for NarrowerRule {
     const RULE_NUMBER: u16 = 5;
 
+    ghost RULE_NUMBER = { 5 };
+
     const CITED_LINES: u8 = 1;
+
+    ghost CITED_LINES = { 1 };
 
     ghost schema = { λ _. narrower };
 
+    ghost has_number = { λ _. refl };
+
+    ghost has_count = { λ _. refl };
+
     ghost lawful = { λ r. narrower_lawful };
-
-    fn number(&self) -> u16 {
-        Self::RULE_NUMBER
-    }
-
-    fn cites(&self) -> u8 {
-        Self::CITED_LINES
-    }
 
     fn applies(&self, v: &Vocabulary, on: Principals, x: &[u64; 16]) -> bool {
         match (v.concept(on.p), v.concept(on.q)) {

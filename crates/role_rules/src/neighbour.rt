@@ -1,4 +1,4 @@
-ghost use Rattle.std.specs.Prelude.{◌≡◌, ℕ, ◌&&◌, ◌||◌, ◌==◌, nat_lt};
+ghost use Rattle.std.specs.Prelude.{◌≡◌, ℕ, ◌&&◌, ◌||◌, ◌==◌, nat_lt, refl};
 ghost use Rattle.bits.specs.Bits.{has};
 ghost use Rattle.labels.specs.Labels.{Row};
 ghost use Rattle.vocabulary.specs.Vocabularies.{is_axiom};
@@ -66,19 +66,19 @@ pub struct NeighbourRule {}
 impl Rule for NeighbourRule {
     const RULE_NUMBER: u16 = 10;
 
+    ghost RULE_NUMBER = { 10 };
+
     const CITED_LINES: u8 = 1;
+
+    ghost CITED_LINES = { 1 };
 
     ghost schema = { λ _. neighbour };
 
+    ghost has_number = { λ _. refl };
+
+    ghost has_count = { λ _. refl };
+
     ghost lawful = { λ r. neighbour_lawful };
-
-    fn number(&self) -> u16 {
-        Self::RULE_NUMBER
-    }
-
-    fn cites(&self) -> u8 {
-        Self::CITED_LINES
-    }
 
     fn applies(&self, v: &Vocabulary, on: Principals, x: &[u64; 16]) -> bool {
         match v.concept(on.p) {
