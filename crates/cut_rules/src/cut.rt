@@ -2,9 +2,9 @@ ghost use Rattle.std.specs.Prelude.{refl};
 ghost use Rattle.schemas.specs.House.{cut};
 ghost use Rattle.schemas.proofs.Agreement.{cut_lawful};
 
-use calculus::rule::{Principals, Rule};
+use calculus::premise::Premise;
+use calculus::rule::Rule;
 use schemas::conclusion::{extended, nothing};
-use vocabulary::Vocabulary;
 
 // Rule 7: p and q are mates. Conclusions: the label and p; the label and q.
 #[derive(Drop)]
@@ -27,15 +27,16 @@ impl Rule for CutRule {
 
     ghost lawful = { λ r. cut_lawful };
 
-    fn applies(&self, v: &Vocabulary, on: Principals, x: &[u64; 16]) -> bool {
-        v.are_mates(on.p, on.q) && on.s == 0
+    fn applies(&self, at: &Premise) -> bool {
+        at.mates() && at.on.s == 0
     }
 
-    fn conclusion(&self, v: &Vocabulary, on: Principals, x: &[u64; 16], i: u8) -> [u64; 16] {
-        if i >= Self::CITED_LINES || !self.applies(v, on, x) {
-            return nothing();
+    fn conclusion(&self, at: &Premise, i: u8) -> [u64; 16] {
+        if self.has_conclusion(at, i) {
+            let mate = if i == 0 { at.on.p } else { at.on.q };
+            extended(at, &[mate])
+        } else {
+            nothing()
         }
-        let mate = if i == 0 { on.p } else { on.q };
-        extended(v, x, &[mate])
     }
 }

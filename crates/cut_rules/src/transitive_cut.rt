@@ -2,11 +2,12 @@ ghost use Rattle.std.specs.Prelude.{refl};
 ghost use Rattle.schemas.specs.House.{transitive_cut};
 ghost use Rattle.schemas.proofs.Agreement.{transitive_cut_lawful};
 
-use calculus::rule::{Principals, Rule};
+use crate::split::split;
+use calculus::premise::Premise;
+use calculus::rule::Rule;
 use logic::concept::Concept;
 use logic::role::inverse;
-use schemas::conclusion::{extended, nothing};
-use vocabulary::Vocabulary;
+use schemas::conclusion::nothing;
 
 // Rule 9: p and q are mates, p is "only R C", where R is transitive, and s is "only R' q". Conclusions: the label and p; the label,
 // q and s. Where an element lies in q, so does each element that R leads from to it.
@@ -30,24 +31,21 @@ impl Rule for TransitiveCutRule {
 
     ghost lawful = { λ r. transitive_cut_lawful };
 
-    fn applies(&self, v: &Vocabulary, on: Principals, x: &[u64; 16]) -> bool {
-        match (v.concept(on.p), v.concept(on.s)) {
-            (Some(Concept::Only(r, _)), Some(Concept::Only(t, c))) => v.are_mates(on.p, on.q)
-                && v.is_transitive(r)
+    fn applies(&self, at: &Premise) -> bool {
+        match (at.concept(at.on.p), at.concept(at.on.s)) {
+            (Some(Concept::Only(r, _)), Some(Concept::Only(t, c))) => at.mates()
+                && at.vocabulary.is_transitive(r)
                 && t as usize == inverse(r as usize)
-                && c == on.q,
+                && c == at.on.q,
             _ => false,
         }
     }
 
-    fn conclusion(&self, v: &Vocabulary, on: Principals, x: &[u64; 16], i: u8) -> [u64; 16] {
-        if i >= Self::CITED_LINES || !self.applies(v, on, x) {
-            return nothing();
-        }
-        if i == 0 {
-            extended(v, x, &[on.p])
+    fn conclusion(&self, at: &Premise, i: u8) -> [u64; 16] {
+        if self.has_conclusion(at, i) {
+            split(at, i)
         } else {
-            extended(v, x, &[on.q, on.s])
+            nothing()
         }
     }
 }

@@ -2,10 +2,9 @@ ghost use Rattle.std.specs.Prelude.{refl};
 ghost use Rattle.schemas.specs.House.{clash};
 ghost use Rattle.schemas.proofs.Agreement.{clash_lawful};
 
-use bits::has;
-use calculus::rule::{Principals, Rule};
+use calculus::premise::Premise;
+use calculus::rule::Rule;
 use schemas::conclusion::nothing;
-use vocabulary::Vocabulary;
 
 // Rule 2: p and q are in the label and are mates. No conclusion: no element lies in both.
 #[derive(Drop)]
@@ -28,11 +27,11 @@ impl Rule for ClashRule {
 
     ghost lawful = { λ r. clash_lawful };
 
-    fn applies(&self, v: &Vocabulary, on: Principals, x: &[u64; 16]) -> bool {
-        has(x, on.p as usize) && has(x, on.q as usize) && v.are_mates(on.p, on.q) && on.s == 0
+    fn applies(&self, at: &Premise) -> bool {
+        at.has(at.on.p) && at.has(at.on.q) && at.mates() && at.on.s == 0
     }
 
-    fn conclusion(&self, v: &Vocabulary, on: Principals, x: &[u64; 16], i: u8) -> [u64; 16] {
+    fn conclusion(&self, at: &Premise, i: u8) -> [u64; 16] {
         nothing()
     }
 }

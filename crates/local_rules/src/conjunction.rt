@@ -2,11 +2,10 @@ ghost use Rattle.std.specs.Prelude.{refl};
 ghost use Rattle.schemas.specs.House.{conjunction};
 ghost use Rattle.schemas.proofs.Agreement.{conjunction_lawful};
 
-use bits::has;
-use calculus::rule::{Principals, Rule};
+use calculus::premise::Premise;
+use calculus::rule::Rule;
 use logic::concept::Concept;
 use schemas::conclusion::{extended, nothing};
-use vocabulary::Vocabulary;
 
 // Rule 3: p is in the label, "C and D". Conclusion: the label, C and D.
 #[derive(Drop)]
@@ -29,19 +28,13 @@ impl Rule for ConjunctionRule {
 
     ghost lawful = { λ r. conjunction_lawful };
 
-    fn applies(&self, v: &Vocabulary, on: Principals, x: &[u64; 16]) -> bool {
-        match v.concept(on.p) {
-            Some(Concept::And(_, _)) => has(x, on.p as usize) && on.q == 0 && on.s == 0,
-            _ => false,
-        }
+    fn applies(&self, at: &Premise) -> bool {
+        matches!(at.sole_principal(), Some(Concept::And(_, _)))
     }
 
-    fn conclusion(&self, v: &Vocabulary, on: Principals, x: &[u64; 16], i: u8) -> [u64; 16] {
-        if i >= Self::CITED_LINES || !self.applies(v, on, x) {
-            return nothing();
-        }
-        match v.concept(on.p) {
-            Some(Concept::And(c, d)) => extended(v, x, &[c, d]),
+    fn conclusion(&self, at: &Premise, i: u8) -> [u64; 16] {
+        match at.sole_principal() {
+            Some(Concept::And(c, d)) if i < Self::CITED_LINES => extended(at, &[c, d]),
             _ => nothing(),
         }
     }

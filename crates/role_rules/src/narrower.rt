@@ -2,11 +2,10 @@ ghost use Rattle.std.specs.Prelude.{refl};
 ghost use Rattle.schemas.specs.House.{narrower};
 ghost use Rattle.schemas.proofs.Agreement.{narrower_lawful};
 
-use bits::has;
-use calculus::rule::{Principals, Rule};
+use calculus::premise::Premise;
+use calculus::rule::Rule;
 use logic::concept::Concept;
 use schemas::conclusion::{extended, nothing};
-use vocabulary::Vocabulary;
 
 // Rule 5: p is in the label, "only R C", and q is "only S C", where S is below R. Conclusion: the label and q.
 #[derive(Drop)]
@@ -29,20 +28,21 @@ impl Rule for NarrowerRule {
 
     ghost lawful = { λ r. narrower_lawful };
 
-    fn applies(&self, v: &Vocabulary, on: Principals, x: &[u64; 16]) -> bool {
-        match (v.concept(on.p), v.concept(on.q)) {
-            (Some(Concept::Only(r, c)), Some(Concept::Only(s, d))) => has(x, on.p as usize)
+    fn applies(&self, at: &Premise) -> bool {
+        match (at.concept(at.on.p), at.concept(at.on.q)) {
+            (Some(Concept::Only(r, c)), Some(Concept::Only(s, d))) => at.has(at.on.p)
                 && c == d
-                && v.is_below(s, r)
-                && on.s == 0,
+                && at.vocabulary.is_below(s, r)
+                && at.on.s == 0,
             _ => false,
         }
     }
 
-    fn conclusion(&self, v: &Vocabulary, on: Principals, x: &[u64; 16], i: u8) -> [u64; 16] {
-        if i >= Self::CITED_LINES || !self.applies(v, on, x) {
-            return nothing();
+    fn conclusion(&self, at: &Premise, i: u8) -> [u64; 16] {
+        if self.has_conclusion(at, i) {
+            extended(at, &[at.on.q])
+        } else {
+            nothing()
         }
-        extended(v, x, &[on.q])
     }
 }

@@ -6,8 +6,9 @@ ghost use Rattle.schemas.specs.House.{passes, carries, gives, neighbour};
 ghost use Rattle.schemas.specs.Tests.{some_below};
 ghost use Rattle.schemas.proofs.Agreement.{neighbour_lawful};
 
-use bits::{has, insert};
-use calculus::rule::{Principals, Rule};
+use bits::insert;
+use calculus::premise::Premise;
+use calculus::rule::Rule;
 use labels::rows::{cut_to, next_from};
 use logic::concept::Concept;
 use schemas::conclusion::nothing;
@@ -45,14 +46,14 @@ fn give(v: &Vocabulary, r: u16, d: u16, row: &mut [u64; 16])
 }
 
 // What a neighbour by role `r` has, if it is asked to have concept `c`: that, the axioms, and what the label gives.
-fn given(v: &Vocabulary, r: u16, c: u16, x: &[u64; 16]) -> [u64; 16]
-    ensures { Row result (λ k. (c == k || is_axiom v.now k) || some_below 1024 (λ d. has x.now d && gives v.now r d k)) }
+fn given(at: &Premise, r: u16, c: u16) -> [u64; 16]
+    ensures { Row result (λ k. (c == k || is_axiom at.now.vocabulary.now k) || some_below 1024 (λ d. has at.now.label.now d && gives at.now.vocabulary.now r d k)) }
 {
-    let mut row = v.axiom_row();
+    let mut row = at.vocabulary.axiom_row();
     insert(&mut row, c as usize);
     let mut from = 0;
-    while let Some(d) = next_from(x, from) {
-        give(v, r, d, &mut row);
+    while let Some(d) = next_from(at.label, from) {
+        give(at.vocabulary, r, d, &mut row);
         from = d + 1;
     }
     row
@@ -80,19 +81,15 @@ impl Rule for NeighbourRule {
 
     ghost lawful = { λ r. neighbour_lawful };
 
-    fn applies(&self, v: &Vocabulary, on: Principals, x: &[u64; 16]) -> bool {
-        match v.concept(on.p) {
-            Some(Concept::Exists(_, _)) => has(x, on.p as usize) && on.q == 0 && on.s == 0,
-            _ => false,
-        }
+    fn applies(&self, at: &Premise) -> bool {
+        matches!(at.sole_principal(), Some(Concept::Exists(_, _)))
     }
 
-    fn conclusion(&self, v: &Vocabulary, on: Principals, x: &[u64; 16], i: u8) -> [u64; 16] {
-        if i >= Self::CITED_LINES || !self.applies(v, on, x) {
-            return nothing();
-        }
-        match v.concept(on.p) {
-            Some(Concept::Exists(r, c)) => cut_to(&given(v, r, c, x), v.len()),
+    fn conclusion(&self, at: &Premise, i: u8) -> [u64; 16] {
+        match at.sole_principal() {
+            Some(Concept::Exists(r, c)) if i < Self::CITED_LINES => {
+                cut_to(&given(at, r, c), at.vocabulary.len())
+            }
             _ => nothing(),
         }
     }

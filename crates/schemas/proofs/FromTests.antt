@@ -12,8 +12,9 @@ use Rattle.vocabulary.specs.Mates.{are_mates}
 use Rattle.vocabulary.specs.Roles.{is_below, is_transitive}
 use Rattle.vocabulary.specs.Vocabularies.{concepts, concept_at, is_axiom}
 use Rattle.calculus.specs.declared.rule.Principals.{Principals}
+use Rattle.calculus.specs.Premises.{p_alone}
 use Rattle.schemas.specs.Table.{Applies, bottom, clash, conjunction, disjunction, narrower, general, cut, inverse_cut, transitive_cut, neighbour, conclusions, Lists, kept, first_part, second_part, first_case, second_case, the_narrower, the_general, cut_p, cut_q, inverse_p, inverse_q, inverse_s, transitive_p, transitive_q, transitive_s, asked, passed, carried, of_all}
-use Rattle.schemas.specs.Tests.{tagged, first_of, second_of, p_alone, some_below}
+use Rattle.schemas.specs.Tests.{tagged, first_of, second_of, some_below}
 use Rattle.schemas.specs.House.{p_or_q_s, passes, carries, gives, bottom as bottom-rule, clash as clash-rule, conjunction as conjunction-rule, disjunction as disjunction-rule, narrower as narrower-rule, general as general-rule, cut as cut-rule, inverse_cut as inverse-cut-rule, transitive_cut as transitive-cut-rule, neighbour as neighbour-rule}
 use Rattle.schemas.proofs.Entries.{never, tagged_at, true_mates, true_below, true_transitive, true_axiom}
 use Rattle.schemas.proofs.SomeBelow.{some_there}

@@ -7,7 +7,7 @@ use Rattle.schemas.specs.Tests.{some_below}
 use Rattle.role_rules.proofs.neighbour.given.Given as goal
 
 abbrev pub invariant-loop-d : goal.invariant-loop-d
-invariant-loop-d l = (l.from ≤ 1024) × Row l.row (λ k. (eqb l.c k || is_axiom l.v k) || some_below l.from (λ d. has l.x d && gives l.v l.r d k))
+invariant-loop-d l = (l.from ≤ 1024) × Row l.row (λ k. (eqb l.c k || is_axiom l.at.vocabulary.now k) || some_below l.from (λ d. has l.at.label.now d && gives l.at.vocabulary.now l.r d k))
 
 abbrev pub decreases-loop-d : goal.decreases-loop-d
 decreases-loop-d l = 1024 - l.from
