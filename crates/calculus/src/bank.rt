@@ -33,7 +33,7 @@ pub trait Bank {
 }
 
 // One rule as a bank.
-#[derive(Drop)]
+#[derive(Default, Drop)]
 pub struct Single<R> {
     pub rule: R,
 }
@@ -61,7 +61,7 @@ impl<R: Rule> Bank for Single<R> {
 }
 
 // Two banks side by side.
-#[derive(Drop)]
+#[derive(Default, Drop)]
 pub struct Pair<L, R> {
     pub left: L,
     pub right: R,

@@ -7,8 +7,8 @@ use calculus::rule::Rule;
 use schemas::conclusion::{extended, nothing};
 
 // Rule 7: p and q are mates. Conclusions: the label and p; the label and q.
-#[derive(Drop)]
-pub struct CutRule {}
+#[derive(Default, Drop)]
+pub struct CutRule;
 
 impl Rule for CutRule {
     const RULE_NUMBER: u16 = 7;

@@ -11,8 +11,8 @@ use schemas::conclusion::nothing;
 
 // Rule 8: p and q are mates, and s is "only R E", where E is "some R' q" and R' the inverse of R. Conclusions: the label and p;
 // the label, q and s. Where an element lies in q, R' leads back to it from each neighbour by R.
-#[derive(Drop)]
-pub struct InverseCutRule {}
+#[derive(Default, Drop)]
+pub struct InverseCutRule;
 
 impl Rule for InverseCutRule {
     const RULE_NUMBER: u16 = 8;

@@ -11,8 +11,8 @@ use schemas::conclusion::nothing;
 
 // Rule 9: p and q are mates, p is "only R C", where R is transitive, and s is "only R' q". Conclusions: the label and p; the label,
 // q and s. Where an element lies in q, so does each element that R leads from to it.
-#[derive(Drop)]
-pub struct TransitiveCutRule {}
+#[derive(Default, Drop)]
+pub struct TransitiveCutRule;
 
 impl Rule for TransitiveCutRule {
     const RULE_NUMBER: u16 = 9;

@@ -8,8 +8,8 @@ use logic::concept::Concept;
 use schemas::conclusion::nothing;
 
 // Rule 1: p is in the label and is Bottom. No conclusion: no element lies in Bottom.
-#[derive(Drop)]
-pub struct BottomRule {}
+#[derive(Default, Drop)]
+pub struct BottomRule;
 
 impl Rule for BottomRule {
     const RULE_NUMBER: u16 = 1;

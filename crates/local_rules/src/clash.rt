@@ -7,8 +7,8 @@ use calculus::rule::Rule;
 use schemas::conclusion::nothing;
 
 // Rule 2: p and q are in the label and are mates. No conclusion: no element lies in both.
-#[derive(Drop)]
-pub struct ClashRule {}
+#[derive(Default, Drop)]
+pub struct ClashRule;
 
 impl Rule for ClashRule {
     const RULE_NUMBER: u16 = 2;

@@ -8,8 +8,8 @@ use logic::concept::Concept;
 use schemas::conclusion::{extended, nothing};
 
 // Rule 3: p is in the label, "C and D". Conclusion: the label, C and D.
-#[derive(Drop)]
-pub struct ConjunctionRule {}
+#[derive(Default, Drop)]
+pub struct ConjunctionRule;
 
 impl Rule for ConjunctionRule {
     const RULE_NUMBER: u16 = 3;

@@ -8,8 +8,8 @@ use logic::concept::Concept;
 use schemas::conclusion::{extended, nothing};
 
 // Rule 4: p is in the label, "C or D". Conclusions: the label and C; the label and D.
-#[derive(Drop)]
-pub struct DisjunctionRule {}
+#[derive(Default, Drop)]
+pub struct DisjunctionRule;
 
 impl Rule for DisjunctionRule {
     const RULE_NUMBER: u16 = 4;

@@ -7,8 +7,8 @@ use calculus::rule::Rule;
 use schemas::conclusion::{extended, nothing};
 
 // Rule 6: p is an axiom. Conclusion: the label and p.
-#[derive(Drop)]
-pub struct GeneralRule {}
+#[derive(Default, Drop)]
+pub struct GeneralRule;
 
 impl Rule for GeneralRule {
     const RULE_NUMBER: u16 = 6;

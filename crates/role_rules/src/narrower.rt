@@ -8,8 +8,8 @@ use logic::concept::Concept;
 use schemas::conclusion::{extended, nothing};
 
 // Rule 5: p is in the label, "only R C", and q is "only S C", where S is below R. Conclusion: the label and q.
-#[derive(Drop)]
-pub struct NarrowerRule {}
+#[derive(Default, Drop)]
+pub struct NarrowerRule;
 
 impl Rule for NarrowerRule {
     const RULE_NUMBER: u16 = 5;

@@ -25,62 +25,10 @@ type LastFive = Pair<
     Pair<Single<InverseCutRule>, Pair<Single<TransitiveCutRule>, Single<NeighbourRule>>>,
 >;
 
-// The bank of all ten rules.
-#[derive(Drop)]
+// The bank of all ten rules. There is nothing in them to choose, so there is one such bank.
+#[derive(Default, Drop)]
 pub struct House {
     rules: Pair<FirstFive, LastFive>,
-}
-
-impl House {
-    // The ten rules. There is nothing in them to choose, so there is one such bank.
-    pub fn new() -> House {
-        House {
-            rules: Pair {
-                left: Pair {
-                    left: Pair {
-                        left: Single {
-                            rule: BottomRule {},
-                        },
-                        right: Single { rule: ClashRule {} },
-                    },
-                    right: Pair {
-                        left: Single {
-                            rule: ConjunctionRule {},
-                        },
-                        right: Pair {
-                            left: Single {
-                                rule: DisjunctionRule {},
-                            },
-                            right: Single {
-                                rule: NarrowerRule {},
-                            },
-                        },
-                    },
-                },
-                right: Pair {
-                    left: Pair {
-                        left: Single {
-                            rule: GeneralRule {},
-                        },
-                        right: Single { rule: CutRule {} },
-                    },
-                    right: Pair {
-                        left: Single {
-                            rule: InverseCutRule {},
-                        },
-                        right: Pair {
-                            left: Single {
-                                rule: TransitiveCutRule {},
-                            },
-                            right: Single {
-                                rule: NeighbourRule {},
-                            },
-                        },
-                    },
-                },
-            },
-        }
-    }
 }
 
 impl Bank for House {
