@@ -32,13 +32,14 @@ impl Rule for TransitiveCutRule {
     ghost lawful = { λ r. transitive_cut_lawful };
 
     fn applies(&self, at: &Premise) -> bool {
-        match (at.concept(at.on.p), at.concept(at.on.s)) {
-            (Some(Concept::Only(r, _)), Some(Concept::Only(t, c))) => at.mates()
-                && at.vocabulary.is_transitive(r)
-                && t as usize == inverse(r as usize)
-                && c == at.on.q,
-            _ => false,
-        }
+        matches!(
+            (at.concept(at.on.p), at.concept(at.on.s)),
+            (Some(Concept::Only(r, _)), Some(Concept::Only(t, c)))
+                if at.mates()
+                    && at.vocabulary.is_transitive(r)
+                    && t as usize == inverse(r as usize)
+                    && c == at.on.q
+        )
     }
 
     fn conclusion(&self, at: &Premise, i: u8) -> [u64; 16] {

@@ -29,13 +29,11 @@ impl Rule for NarrowerRule {
     ghost lawful = { λ r. narrower_lawful };
 
     fn applies(&self, at: &Premise) -> bool {
-        match (at.concept(at.on.p), at.concept(at.on.q)) {
-            (Some(Concept::Only(r, c)), Some(Concept::Only(s, d))) => at.has(at.on.p)
-                && c == d
-                && at.vocabulary.is_below(s, r)
-                && at.on.s == 0,
-            _ => false,
-        }
+        matches!(
+            (at.concept(at.on.p), at.concept(at.on.q)),
+            (Some(Concept::Only(r, c)), Some(Concept::Only(s, d)))
+                if at.has(at.on.p) && c == d && at.vocabulary.is_below(s, r) && at.on.s == 0
+        )
     }
 
     fn conclusion(&self, at: &Premise, i: u8) -> [u64; 16] {

@@ -6,10 +6,11 @@ ghost use Rattle.schemas.specs.House.{passes, carries, gives, neighbour};
 ghost use Rattle.schemas.specs.Tests.{some_below};
 ghost use Rattle.schemas.proofs.Agreement.{neighbour_lawful};
 
+use crate::members::Members;
 use bits::insert;
 use calculus::premise::Premise;
 use calculus::rule::Rule;
-use labels::rows::{cut_to, next_from};
+use labels::rows::cut_to;
 use logic::concept::Concept;
 use schemas::conclusion::nothing;
 use vocabulary::Vocabulary;
@@ -18,10 +19,10 @@ use vocabulary::Vocabulary;
 fn pass(v: &Vocabulary, r: u16, d: u16, row: &mut [u64; 16])
     ensures { (c : ℕ) → has row.new c ≡ (has row.old c || (nat_lt c 1024 && passes v.now r d c)) }
 {
-    if let Some(Concept::Only(s, e)) = v.concept(d) {
-        if s == r {
-            insert(row, e as usize);
-        }
+    if let Some(Concept::Only(s, e)) = v.concept(d)
+        && s == r
+    {
+        insert(row, e as usize);
     }
 }
 
@@ -29,10 +30,7 @@ fn pass(v: &Vocabulary, r: u16, d: u16, row: &mut [u64; 16])
 fn carries(v: &Vocabulary, r: u16, d: u16) -> bool
     ensures { result ≡ carries v.now r d }
 {
-    match v.concept(d) {
-        Some(Concept::Only(s, _)) => v.is_below(r, s) && v.is_transitive(s),
-        _ => false,
-    }
+    matches!(v.concept(d), Some(Concept::Only(s, _)) if v.is_below(r, s) && v.is_transitive(s))
 }
 
 // Puts into the row what concept `d` of a label gives to every neighbour by role `r`.
@@ -51,10 +49,12 @@ fn given(at: &Premise, r: u16, c: u16) -> [u64; 16]
 {
     let mut row = at.vocabulary.axiom_row();
     insert(&mut row, c as usize);
-    let mut from = 0;
-    while let Some(d) = next_from(at.label, from) {
+    let members = Members {
+        row: at.label,
+        from: 0,
+    };
+    for d in members {
         give(at.vocabulary, r, d, &mut row);
-        from = d + 1;
     }
     row
 }

@@ -1,5 +1,5 @@
 -- Rows with numbers put in, cut to those that stand.
-use Rattle.std.proofs.Common.{◌≡◌, ℕ, ◌*◌, ◌<◌, Bool, true, false, ◌&&◌, ◌||◌, ltb, List, length, sym, refl, ap, ◌∙◌}
+use Rattle.std.proofs.Common.{◌≡◌, ℕ, ◌*◌, Bool, true, false, ◌&&◌, ◌||◌, ltb, List, length, refl, ap, ◌∙◌}
 use mathlib.Core.Bool.{or_comm}
 use Rattle.bits.specs.Bits.{has}
 use Rattle.labels.specs.Labels.{Row, among, filled}
