@@ -1,12 +1,12 @@
 -- Rows with numbers put in, cut to those that stand.
-use Rattle.std.proofs.Common.{◌≡◌, ℕ, ◌*◌, Bool, true, false, ◌&&◌, ◌||◌, ltb, List, length, refl, ap, ◌∙◌}
+use Rattle.std.proofs.Common.{◌≡◌, ℕ, ◌*◌, Bool, true, false, ◌&&◌, ◌||◌, ltb, List, length, sym, refl, ap, ◌∙◌}
 use mathlib.Core.Bool.{or_comm}
+use Rattle.std.proofs.Math.Bool.{and_self_left}
 use Rattle.bits.specs.Bits.{has}
 use Rattle.labels.specs.Labels.{Row, among, filled}
 use Rattle.labels.proofs.RowFacts.{filled_has}
 use Rattle.calculus.specs.declared.premise.Premise.{Premise}
 use Rattle.vocabulary.specs.Vocabularies.{concepts}
-use Rattle.schemas.proofs.Entries.{never}
 
 within : (b t a h : Bool) → (b && (t && ((b && a) || h))) ≡ (b && (t && (h || a)))
 within true t a h = ap (λ z. t && z) (or_comm a h)
@@ -22,16 +22,11 @@ extended_row row all added r count size e (sixteen, cut) = (
       ∙ within (ltb c 1024) (ltb c count) (among added c) (has row c),
 )
 
-again : (h b s : Bool) → h ≡ true → (b && s) ≡ (b && (h && (b && s)))
-again true true s e = refl
-again true false s e = refl
-again false b s e = never e
-
 -- a conclusion that the step has, from a row of what it shows
 pub concluded_row : (r : List ℕ) (shown lists : ℕ → Bool) {held : Bool} → held ≡ true → ((c : ℕ) → shown c ≡ lists c)
     → Row r shown → Row r (λ c. held && (ltb c 1024 && lists c))
-concluded_row r shown lists {held = h} a e (sixteen, same) =
-    (sixteen, λ c. same c ∙ ap (λ z. ltb c 1024 && z) (e c) ∙ again h (ltb c 1024) (lists c) a)
+concluded_row r shown lists a e (sixteen, same) =
+    (sixteen, λ c. same c ∙ ap (λ z. ltb c 1024 && z) (e c) ∙ rw a (sym (and_self_left (ltb c 1024) (lists c))))
 
 -- the label with `given` put in, which is what the rule adds
 pub added_row : (at : Premise) (r : List ℕ) {given added : List ℕ} {held : Bool} → held ≡ true → given ≡ added
