@@ -5,6 +5,7 @@ ghost use Rattle.book.specs.Drafts.{Checked, RowsAreRight, Passed, range_rows, a
 use crate::line::{Cited, Line, Step};
 use crate::members::{check_rising, check_standing};
 use calculus::bank::Bank;
+use calculus::premise::Premise;
 use calculus::rule::Principals;
 use labels::members::row_of;
 use labels::rows::first_outside;
@@ -74,7 +75,12 @@ fn outside_conclusion<B: Bank>(
 ) -> Option<u16>
     ensures { result ≡ least_outside y.now (conclusion (B.Bank.calculus bank.now) v.now f.now x.now i) }
 {
-    let row = bank.conclusion(f.rule, v, f.on, x, i);
+    let at = Premise {
+        vocabulary: v,
+        on: f.on,
+        label: x,
+    };
+    let row = bank.conclusion(f.rule, &at, i);
     first_outside(y, &row)
 }
 
@@ -131,7 +137,12 @@ pub fn check<B: Bank>(
     }
     check_rising(f.members, 6)?;
     let label = row_of(f.members);
-    if !bank.applies(f.rule, v, f.on, &label) {
+    let at = Premise {
+        vocabulary: v,
+        on: f.on,
+        label: &label,
+    };
+    if !bank.applies(f.rule, &at) {
         return Err(Refusal::Inapplicable(f.rule));
     }
     if let Some(c) = first_unfit(bank, v, lines, f, &label) {

@@ -1,4 +1,5 @@
 pub mod Cases
+pub mod Premises
 pub mod Schemas
 pub mod Calculi
 pub mod Banks

@@ -4,8 +4,8 @@ ghost use Rattle.labels.specs.Labels.{Row};
 ghost use Rattle.calculus.specs.Calculi.{Calculus, LawfulCalculus, alone, beside};
 ghost use Rattle.calculus.specs.Banks.{alone_lawful, beside_lawful};
 
-use crate::rule::{Principals, Rule};
-use vocabulary::Vocabulary;
+use crate::premise::Premise;
+use crate::rule::Rule;
 
 // A bank of rules: one rule, or two banks side by side. It answers by the leftmost rule with the step's number; with a
 // number that no rule has, no step applies. It is lent to the calls that need one.
@@ -21,26 +21,19 @@ pub trait Bank {
     fn cites(&self, rule: u16) -> u8
         ensures { result ≡ (calculus self.now).cites rule };
 
-    // Whether the step applies to the label `x`.
-    fn applies(&self, rule: u16, v: &Vocabulary, on: Principals, x: &[u64; 16]) -> bool
-        ensures { result ≡ (calculus self.now).applies rule v.now on x.now };
+    // Whether the step applies.
+    fn applies(&self, rule: u16, at: &Premise) -> bool
+        ensures { result ≡ (calculus self.now).applies rule at.now.vocabulary.now at.now.on at.now.label.now };
 
     // Conclusion `i`, as a row.
-    fn conclusion(
-        &self,
-        rule: u16,
-        v: &Vocabulary,
-        on: Principals,
-        x: &[u64; 16],
-        i: u8,
-    ) -> [u64; 16]
-        ensures { Row result ((calculus self.now).concludes rule v.now on x.now i) };
+    fn conclusion(&self, rule: u16, at: &Premise, i: u8) -> [u64; 16]
+        ensures { Row result ((calculus self.now).concludes rule at.now.vocabulary.now at.now.on at.now.label.now i) };
 
     ghost lawful: { (b : Self) → LawfulCalculus (calculus b) };
 }
 
 // One rule as a bank.
-#[derive(Drop)]
+#[derive(Default, Drop)]
 pub struct Single<R> {
     pub rule: R,
 }
@@ -51,31 +44,24 @@ impl<R: Rule> Bank for Single<R> {
     ghost lawful = { λ b. alone_lawful (R.Rule.schema b.rule) (R.Rule.lawful b.rule) };
 
     fn has(&self, rule: u16) -> bool {
-        rule == self.rule.number()
+        rule == R::RULE_NUMBER
     }
 
     fn cites(&self, rule: u16) -> u8 {
-        self.rule.cites()
+        R::CITED_LINES
     }
 
-    fn applies(&self, rule: u16, v: &Vocabulary, on: Principals, x: &[u64; 16]) -> bool {
-        rule == self.rule.number() && self.rule.applies(v, on, x)
+    fn applies(&self, rule: u16, at: &Premise) -> bool {
+        rule == R::RULE_NUMBER && self.rule.applies(at)
     }
 
-    fn conclusion(
-        &self,
-        rule: u16,
-        v: &Vocabulary,
-        on: Principals,
-        x: &[u64; 16],
-        i: u8,
-    ) -> [u64; 16] {
-        self.rule.conclusion(v, on, x, i)
+    fn conclusion(&self, rule: u16, at: &Premise, i: u8) -> [u64; 16] {
+        self.rule.conclusion(at, i)
     }
 }
 
 // Two banks side by side.
-#[derive(Drop)]
+#[derive(Default, Drop)]
 pub struct Pair<L, R> {
     pub left: L,
     pub right: R,
@@ -98,26 +84,19 @@ impl<L: Bank, R: Bank> Bank for Pair<L, R> {
         }
     }
 
-    fn applies(&self, rule: u16, v: &Vocabulary, on: Principals, x: &[u64; 16]) -> bool {
+    fn applies(&self, rule: u16, at: &Premise) -> bool {
         if self.left.has(rule) {
-            self.left.applies(rule, v, on, x)
+            self.left.applies(rule, at)
         } else {
-            self.right.applies(rule, v, on, x)
+            self.right.applies(rule, at)
         }
     }
 
-    fn conclusion(
-        &self,
-        rule: u16,
-        v: &Vocabulary,
-        on: Principals,
-        x: &[u64; 16],
-        i: u8,
-    ) -> [u64; 16] {
+    fn conclusion(&self, rule: u16, at: &Premise, i: u8) -> [u64; 16] {
         if self.left.has(rule) {
-            self.left.conclusion(rule, v, on, x, i)
+            self.left.conclusion(rule, at, i)
         } else {
-            self.right.conclusion(rule, v, on, x, i)
+            self.right.conclusion(rule, at, i)
         }
     }
 }

@@ -1,4 +1,5 @@
 #![tactic(auto)]
 
 pub mod bank;
+pub mod premise;
 pub mod rule;

@@ -1,11 +1,12 @@
-ghost use Rattle.std.specs.Prelude.{◌≡◌, ℕ, ◌&&◌, nat_le};
+ghost use Rattle.std.specs.Prelude.{◌≡◌, ℕ, ◌&&◌, nat_le, nat_lt};
 ghost use Rattle.labels.specs.Least.{least};
 ghost use Rattle.labels.specs.Labels.{Row};
+ghost use Rattle.calculus.specs.Premises.{p_alone};
 ghost use Rattle.calculus.specs.Schemas.{Schema, Lawful};
 
+use crate::premise::Premise;
 use bits;
 use labels::rows::next_from;
-use vocabulary::Vocabulary;
 
 // The concepts that a step names, by number; one that its rule doesn't use is 0.
 #[derive(Clone, Copy)]
@@ -15,48 +16,66 @@ pub struct Principals {
     pub s: u16,
 }
 
+impl Principals {
+    // Whether the step names p alone.
+    pub fn p_alone(self) -> bool
+        ensures { result ≡ p_alone self }
+    {
+        self.q == 0 && self.s == 0
+    }
+}
+
 // A rule of the calculus. It says when a step applies to a label, and which standing concepts its conclusions have. It
 // refuses nothing, and asking alters nothing.
 pub trait Rule {
-    // Its number, and how many lines a step by it cites: 0 to 2.
+    // Its number.
     const RULE_NUMBER: u16;
 
+    ghost RULE_NUMBER: { ℕ };
+
+    // How many lines a step by it cites, which is how many conclusions it has: 0 to 2.
     const CITED_LINES: u8;
+
+    ghost CITED_LINES: { ℕ };
 
     // what the rule says
     ghost schema: { Self → Schema };
 
-    // Its number, where a contract can speak of it.
-    fn number(&self) -> u16
-        ensures { result ≡ (schema self.now).number };
-
-    // How many lines a step by this rule cites, which is how many conclusions it has.
-    fn cites(&self) -> u8
-        ensures { result ≡ (schema self.now).cites };
-
-    // Whether the step applies to the label `x`.
-    fn applies(&self, v: &Vocabulary, on: Principals, x: &[u64; 16]) -> bool
-        ensures { result ≡ (schema self.now).applies v.now on x.now };
+    // Whether the step applies.
+    fn applies(&self, at: &Premise) -> bool
+        ensures { result ≡ (schema self.now).applies at.now.vocabulary.now at.now.on at.now.label.now };
 
     // Conclusion `i`, as a row.
-    fn conclusion(&self, v: &Vocabulary, on: Principals, x: &[u64; 16], i: u8) -> [u64; 16]
-        ensures { Row result ((schema self.now).concludes v.now on x.now i) };
+    fn conclusion(&self, at: &Premise, i: u8) -> [u64; 16]
+        ensures { Row result ((schema self.now).concludes at.now.vocabulary.now at.now.on at.now.label.now i) };
+
+    // Whether the step applies and has a conclusion `i`.
+    fn has_conclusion(&self, at: &Premise, i: u8) -> bool
+        ensures { result ≡ (nat_lt i CITED_LINES && (schema self.now).applies at.now.vocabulary.now at.now.on at.now.label.now) }
+    {
+        i < Self::CITED_LINES && self.applies(at)
+    }
 
     // Whether concept `c` is in conclusion `i`.
-    fn concludes(&self, v: &Vocabulary, on: Principals, x: &[u64; 16], i: u8, c: u16) -> bool
-        ensures { result ≡ (schema self.now).concludes v.now on x.now i c }
+    fn concludes(&self, at: &Premise, i: u8, c: u16) -> bool
+        ensures { result ≡ (schema self.now).concludes at.now.vocabulary.now at.now.on at.now.label.now i c }
     {
-        let row = self.conclusion(v, on, x, i);
+        let row = self.conclusion(at, i);
         bits::has(&row, c as usize)
     }
 
     // The next concept from `c` upward in conclusion `i`.
-    fn next(&self, v: &Vocabulary, on: Principals, x: &[u64; 16], i: u8, c: u16) -> Option<u16>
-        ensures { result ≡ least 1024 (λ k. nat_le c k && (schema self.now).concludes v.now on x.now i k) }
+    fn next(&self, at: &Premise, i: u8, c: u16) -> Option<u16>
+        ensures { result ≡ least 1024 (λ k. nat_le c k && (schema self.now).concludes at.now.vocabulary.now at.now.on at.now.label.now i k) }
     {
-        let row = self.conclusion(v, on, x, i);
+        let row = self.conclusion(at, i);
         next_from(&row, c)
     }
+
+    // the constants are what it says
+    ghost has_number: { (r : Self) → (schema r).number ≡ RULE_NUMBER };
+
+    ghost has_count: { (r : Self) → (schema r).cites ≡ CITED_LINES };
 
     // if an element has all of the label, and the step applies, some element has all of one of the conclusions
     ghost lawful: { (r : Self) → Lawful (schema r) };

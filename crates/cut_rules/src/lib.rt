@@ -4,4 +4,5 @@
 
 pub mod cut;
 pub mod inverse_cut;
+mod split;
 pub mod transitive_cut;

@@ -5,6 +5,7 @@ use crate::Docket;
 use crate::phase::Phase;
 use book::members::{check_rising, check_standing};
 use calculus::bank::Bank;
+use calculus::premise::Premise;
 use calculus::rule::Principals;
 use labels::members::row_of;
 use refusals::Refusal;
@@ -73,13 +74,15 @@ impl<'a> Docket<'a> {
         check_standing(asked.members, self.vocabulary.len(), 5)?;
         check_rising(asked.members, 5)?;
         let label = row_of(asked.members);
-        if !bank.applies(asked.rule, &self.vocabulary, asked.on, &label) {
+        let at = Premise {
+            vocabulary: &self.vocabulary,
+            on: asked.on,
+            label: &label,
+        };
+        if !bank.applies(asked.rule, &at) {
             return Err(Refusal::Inapplicable(asked.rule));
         }
-        write_row(
-            memory,
-            &bank.conclusion(asked.rule, &self.vocabulary, asked.on, &label, index),
-        );
+        write_row(memory, &bank.conclusion(asked.rule, &at, index));
         Ok(())
     }
 }

@@ -1,46 +1,40 @@
+ghost use Rattle.std.specs.Prelude.{refl};
 ghost use Rattle.schemas.specs.House.{conjunction};
 ghost use Rattle.schemas.proofs.Agreement.{conjunction_lawful};
 
-use bits::has;
-use calculus::rule::{Principals, Rule};
+use calculus::premise::Premise;
+use calculus::rule::Rule;
 use logic::concept::Concept;
 use schemas::conclusion::{extended, nothing};
-use vocabulary::Vocabulary;
 
 // Rule 3: p is in the label, "C and D". Conclusion: the label, C and D.
-#[derive(Drop)]
-pub struct ConjunctionRule {}
+#[derive(Default, Drop)]
+pub struct ConjunctionRule;
 
 impl Rule for ConjunctionRule {
     const RULE_NUMBER: u16 = 3;
 
+    ghost RULE_NUMBER = { 3 };
+
     const CITED_LINES: u8 = 1;
+
+    ghost CITED_LINES = { 1 };
 
     ghost schema = { λ _. conjunction };
 
+    ghost has_number = { λ _. refl };
+
+    ghost has_count = { λ _. refl };
+
     ghost lawful = { λ r. conjunction_lawful };
 
-    fn number(&self) -> u16 {
-        Self::RULE_NUMBER
+    fn applies(&self, at: &Premise) -> bool {
+        matches!(at.sole_principal(), Some(Concept::And(_, _)))
     }
 
-    fn cites(&self) -> u8 {
-        Self::CITED_LINES
-    }
-
-    fn applies(&self, v: &Vocabulary, on: Principals, x: &[u64; 16]) -> bool {
-        match v.concept(on.p) {
-            Some(Concept::And(_, _)) => has(x, on.p as usize) && on.q == 0 && on.s == 0,
-            _ => false,
-        }
-    }
-
-    fn conclusion(&self, v: &Vocabulary, on: Principals, x: &[u64; 16], i: u8) -> [u64; 16] {
-        if i >= Self::CITED_LINES || !self.applies(v, on, x) {
-            return nothing();
-        }
-        match v.concept(on.p) {
-            Some(Concept::And(c, d)) => extended(v, x, &[c, d]),
+    fn conclusion(&self, at: &Premise, i: u8) -> [u64; 16] {
+        match at.sole_principal() {
+            Some(Concept::And(c, d)) if i < Self::CITED_LINES => extended(at, &[c, d]),
             _ => nothing(),
         }
     }

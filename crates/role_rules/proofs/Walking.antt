@@ -1,7 +1,7 @@
 -- A walk through the members of a label, each of which puts numbers into a row.
 use Rattle.std.proofs.Common.{◌≡◌, ℕ, ◌+◌, ◌*◌, ◌<◌, ◌≤◌, Bool, true, false, ◌&&◌, ◌||◌, eqb, ltb, leb, List, length, Some, None, sym, refl, ap, ◌∙◌, ⊎_elim, arith}
 use mathlib.Core.Bool.{or-false, or_comm}
-use Rattle.std.proofs.lemmas.Bool.{cases_lt, and_parts, and_cases, and_left, and_right, both_ways, lt-ltb, le-ltb, le-leb, leb-true}
+use Rattle.std.proofs.lemmas.Bool.{cases_lt, and_parts, and_left, and_right, lt-ltb, le-ltb, le-leb, leb-true}
 use Rattle.bits.specs.Bits.{has, inserted}
 use Rattle.bits.proofs.BitFacts.{has_past}
 use Rattle.labels.specs.Labels.{Row, next_from}
@@ -55,7 +55,11 @@ joined true false t g = refl
 joined false s t g = refl
 
 module _ (x : List ℕ) (from : ℕ) where
-  -- where the next member is, and none
+  -- what fails the test from there on is no member
+  absent : (k : ℕ) → from ≤ k → (leb from k && has x k) ≡ false → has x k ≡ false
+  absent k l h = rw (le-leb from k l) at h
+
+  -- where the next member is, and none before it
   next_at : (d : ℕ) → next_from x from ≡ Some d → (d < 1024) × (from ≤ d) × (has x d ≡ true) × ((k : ℕ) → from ≤ k → k < d → has x k ≡ false)
   next_at d h =
       let (l, t, rest) = least_some 1024 d (λ k. leb from k && has x k) h in
@@ -63,10 +67,7 @@ module _ (x : List ℕ) (from : ℕ) where
         l,
         leb-true from d a,
         b,
-        λ k lo hi. ⊎_elim
-            (λ (z : leb from k ≡ false). absurd (both_ways (leb from k) z (le-leb from k lo)))
-            (λ (z : has x k ≡ false). z)
-            (and_cases (leb from k) (has x k) (rest k hi)),
+        λ k lo hi. absent k lo (rest k hi),
       )
 
   -- one member more
@@ -89,15 +90,9 @@ module _ (x : List ℕ) (from : ℕ) where
       → Row row (λ k. start k || some_below from (λ j. has x j && g j k)) → Row row (λ k. start k || some_below 1024 (λ j. has x j && g j k))
   walk_ends row start g small h before = (
     before.0,
-    λ k. before.1 k ∙ sym (ap (λ z. ltb k 1024 && (start k || z))
-        (some_rest from 1024 (λ j. has x j && g j k) small (λ j a b. and_left (has x j) (g j k) (none j a b)))),
+    λ k. before.1 k ∙ sym (ap (λ z. ltb k 1024 && (start k || z)) (some_rest from 1024 (λ j. has x j && g j k) small
+        (λ j a b. and_left (has x j) (g j k) (absent j a (least_all 1024 (λ m. leb from m && has x m) h j b))))),
   )
-    where
-      none : (j : ℕ) → from ≤ j → j < 1024 → has x j ≡ false
-      none j lo hi = ⊎_elim
-          (λ (z : leb from j ≡ false). absurd (both_ways (leb from j) z (le-leb from j lo)))
-          (λ (z : has x j ≡ false). z)
-          (and_cases (leb from j) (has x j) (least_all 1024 (λ k. leb from k && has x k) h j hi))
 
   pub next_is : (d : ℕ) → next_from x from ≡ Some d → (d < 1024) × (from ≤ d)
   next_is d h = let t = next_at d h in (t.0, t.1)

@@ -2,5 +2,6 @@
 
 #![tactic(auto)]
 
+mod members;
 pub mod narrower;
 pub mod neighbour;

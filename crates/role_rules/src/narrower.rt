@@ -1,47 +1,46 @@
+ghost use Rattle.std.specs.Prelude.{refl};
 ghost use Rattle.schemas.specs.House.{narrower};
 ghost use Rattle.schemas.proofs.Agreement.{narrower_lawful};
 
-use bits::has;
-use calculus::rule::{Principals, Rule};
+use calculus::premise::Premise;
+use calculus::rule::Rule;
 use logic::concept::Concept;
 use schemas::conclusion::{extended, nothing};
-use vocabulary::Vocabulary;
 
 // Rule 5: p is in the label, "only R C", and q is "only S C", where S is below R. Conclusion: the label and q.
-#[derive(Drop)]
-pub struct NarrowerRule {}
+#[derive(Default, Drop)]
+pub struct NarrowerRule;
 
 impl Rule for NarrowerRule {
     const RULE_NUMBER: u16 = 5;
 
+    ghost RULE_NUMBER = { 5 };
+
     const CITED_LINES: u8 = 1;
+
+    ghost CITED_LINES = { 1 };
 
     ghost schema = { λ _. narrower };
 
+    ghost has_number = { λ _. refl };
+
+    ghost has_count = { λ _. refl };
+
     ghost lawful = { λ r. narrower_lawful };
 
-    fn number(&self) -> u16 {
-        Self::RULE_NUMBER
+    fn applies(&self, at: &Premise) -> bool {
+        matches!(
+            (at.concept(at.on.p), at.concept(at.on.q)),
+            (Some(Concept::Only(r, c)), Some(Concept::Only(s, d)))
+                if at.has(at.on.p) && c == d && at.vocabulary.is_below(s, r) && at.on.s == 0
+        )
     }
 
-    fn cites(&self) -> u8 {
-        Self::CITED_LINES
-    }
-
-    fn applies(&self, v: &Vocabulary, on: Principals, x: &[u64; 16]) -> bool {
-        match (v.concept(on.p), v.concept(on.q)) {
-            (Some(Concept::Only(r, c)), Some(Concept::Only(s, d))) => has(x, on.p as usize)
-                && c == d
-                && v.is_below(s, r)
-                && on.s == 0,
-            _ => false,
+    fn conclusion(&self, at: &Premise, i: u8) -> [u64; 16] {
+        if self.has_conclusion(at, i) {
+            extended(at, &[at.on.q])
+        } else {
+            nothing()
         }
-    }
-
-    fn conclusion(&self, v: &Vocabulary, on: Principals, x: &[u64; 16], i: u8) -> [u64; 16] {
-        if i >= Self::CITED_LINES || !self.applies(v, on, x) {
-            return nothing();
-        }
-        extended(v, x, &[on.q])
     }
 }

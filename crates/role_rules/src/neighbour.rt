@@ -1,4 +1,4 @@
-ghost use Rattle.std.specs.Prelude.{◌≡◌, ℕ, ◌&&◌, ◌||◌, ◌==◌, nat_lt};
+ghost use Rattle.std.specs.Prelude.{◌≡◌, ℕ, ◌&&◌, ◌||◌, ◌==◌, nat_lt, refl};
 ghost use Rattle.bits.specs.Bits.{has};
 ghost use Rattle.labels.specs.Labels.{Row};
 ghost use Rattle.vocabulary.specs.Vocabularies.{is_axiom};
@@ -6,9 +6,11 @@ ghost use Rattle.schemas.specs.House.{passes, carries, gives, neighbour};
 ghost use Rattle.schemas.specs.Tests.{some_below};
 ghost use Rattle.schemas.proofs.Agreement.{neighbour_lawful};
 
-use bits::{has, insert};
-use calculus::rule::{Principals, Rule};
-use labels::rows::{cut_to, next_from};
+use crate::members::Members;
+use bits::insert;
+use calculus::premise::Premise;
+use calculus::rule::Rule;
+use labels::rows::cut_to;
 use logic::concept::Concept;
 use schemas::conclusion::nothing;
 use vocabulary::Vocabulary;
@@ -17,10 +19,10 @@ use vocabulary::Vocabulary;
 fn pass(v: &Vocabulary, r: u16, d: u16, row: &mut [u64; 16])
     ensures { (c : ℕ) → has row.new c ≡ (has row.old c || (nat_lt c 1024 && passes v.now r d c)) }
 {
-    if let Some(Concept::Only(s, e)) = v.concept(d) {
-        if s == r {
-            insert(row, e as usize);
-        }
+    if let Some(Concept::Only(s, e)) = v.concept(d)
+        && s == r
+    {
+        insert(row, e as usize);
     }
 }
 
@@ -28,10 +30,7 @@ fn pass(v: &Vocabulary, r: u16, d: u16, row: &mut [u64; 16])
 fn carries(v: &Vocabulary, r: u16, d: u16) -> bool
     ensures { result ≡ carries v.now r d }
 {
-    match v.concept(d) {
-        Some(Concept::Only(s, _)) => v.is_below(r, s) && v.is_transitive(s),
-        _ => false,
-    }
+    matches!(v.concept(d), Some(Concept::Only(s, _)) if v.is_below(r, s) && v.is_transitive(s))
 }
 
 // Puts into the row what concept `d` of a label gives to every neighbour by role `r`.
@@ -45,54 +44,52 @@ fn give(v: &Vocabulary, r: u16, d: u16, row: &mut [u64; 16])
 }
 
 // What a neighbour by role `r` has, if it is asked to have concept `c`: that, the axioms, and what the label gives.
-fn given(v: &Vocabulary, r: u16, c: u16, x: &[u64; 16]) -> [u64; 16]
-    ensures { Row result (λ k. (c == k || is_axiom v.now k) || some_below 1024 (λ d. has x.now d && gives v.now r d k)) }
+fn given(at: &Premise, r: u16, c: u16) -> [u64; 16]
+    ensures { Row result (λ k. (c == k || is_axiom at.now.vocabulary.now k) || some_below 1024 (λ d. has at.now.label.now d && gives at.now.vocabulary.now r d k)) }
 {
-    let mut row = v.axiom_row();
+    let mut row = at.vocabulary.axiom_row();
     insert(&mut row, c as usize);
-    let mut from = 0;
-    while let Some(d) = next_from(x, from) {
-        give(v, r, d, &mut row);
-        from = d + 1;
+    let members = Members {
+        row: at.label,
+        from: 0,
+    };
+    for d in members {
+        give(at.vocabulary, r, d, &mut row);
     }
     row
 }
 
 // Rule 10: p is in the label, "some R C". Conclusion, of a neighbour by R: C; all D with "only R D" in the label; all "only S D" in the
 // label where R is below S and S is transitive; and all axioms.
-#[derive(Drop)]
-pub struct NeighbourRule {}
+#[derive(Default, Drop)]
+pub struct NeighbourRule;
 
 impl Rule for NeighbourRule {
     const RULE_NUMBER: u16 = 10;
 
+    ghost RULE_NUMBER = { 10 };
+
     const CITED_LINES: u8 = 1;
+
+    ghost CITED_LINES = { 1 };
 
     ghost schema = { λ _. neighbour };
 
+    ghost has_number = { λ _. refl };
+
+    ghost has_count = { λ _. refl };
+
     ghost lawful = { λ r. neighbour_lawful };
 
-    fn number(&self) -> u16 {
-        Self::RULE_NUMBER
+    fn applies(&self, at: &Premise) -> bool {
+        matches!(at.sole_principal(), Some(Concept::Exists(_, _)))
     }
 
-    fn cites(&self) -> u8 {
-        Self::CITED_LINES
-    }
-
-    fn applies(&self, v: &Vocabulary, on: Principals, x: &[u64; 16]) -> bool {
-        match v.concept(on.p) {
-            Some(Concept::Exists(_, _)) => has(x, on.p as usize) && on.q == 0 && on.s == 0,
-            _ => false,
-        }
-    }
-
-    fn conclusion(&self, v: &Vocabulary, on: Principals, x: &[u64; 16], i: u8) -> [u64; 16] {
-        if i >= Self::CITED_LINES || !self.applies(v, on, x) {
-            return nothing();
-        }
-        match v.concept(on.p) {
-            Some(Concept::Exists(r, c)) => cut_to(&given(v, r, c, x), v.len()),
+    fn conclusion(&self, at: &Premise, i: u8) -> [u64; 16] {
+        match at.sole_principal() {
+            Some(Concept::Exists(r, c)) if i < Self::CITED_LINES => {
+                cut_to(&given(at, r, c), at.vocabulary.len())
+            }
             _ => nothing(),
         }
     }

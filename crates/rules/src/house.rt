@@ -2,7 +2,7 @@ ghost use Rattle.schemas.specs.House.{house};
 ghost use Rattle.schemas.proofs.HouseLaws.{house_lawful};
 
 use calculus::bank::{Bank, Pair, Single};
-use calculus::rule::{Principals, Rule};
+use calculus::premise::Premise;
 use cut_rules::cut::CutRule;
 use cut_rules::inverse_cut::InverseCutRule;
 use cut_rules::transitive_cut::TransitiveCutRule;
@@ -13,7 +13,6 @@ use local_rules::disjunction::DisjunctionRule;
 use local_rules::general::GeneralRule;
 use role_rules::narrower::NarrowerRule;
 use role_rules::neighbour::NeighbourRule;
-use vocabulary::Vocabulary;
 
 // Rules 1 to 5 and rules 6 to 10, side by side. The nesting is balanced, since a proof about a bank costs more the deeper it is.
 type FirstFive = Pair<
@@ -26,62 +25,10 @@ type LastFive = Pair<
     Pair<Single<InverseCutRule>, Pair<Single<TransitiveCutRule>, Single<NeighbourRule>>>,
 >;
 
-// The bank of all ten rules.
-#[derive(Drop)]
+// The bank of all ten rules. There is nothing in them to choose, so there is one such bank.
+#[derive(Default, Drop)]
 pub struct House {
     rules: Pair<FirstFive, LastFive>,
-}
-
-impl House {
-    // The ten rules. There is nothing in them to choose, so there is one such bank.
-    pub fn new() -> House {
-        House {
-            rules: Pair {
-                left: Pair {
-                    left: Pair {
-                        left: Single {
-                            rule: BottomRule {},
-                        },
-                        right: Single { rule: ClashRule {} },
-                    },
-                    right: Pair {
-                        left: Single {
-                            rule: ConjunctionRule {},
-                        },
-                        right: Pair {
-                            left: Single {
-                                rule: DisjunctionRule {},
-                            },
-                            right: Single {
-                                rule: NarrowerRule {},
-                            },
-                        },
-                    },
-                },
-                right: Pair {
-                    left: Pair {
-                        left: Single {
-                            rule: GeneralRule {},
-                        },
-                        right: Single { rule: CutRule {} },
-                    },
-                    right: Pair {
-                        left: Single {
-                            rule: InverseCutRule {},
-                        },
-                        right: Pair {
-                            left: Single {
-                                rule: TransitiveCutRule {},
-                            },
-                            right: Single {
-                                rule: NeighbourRule {},
-                            },
-                        },
-                    },
-                },
-            },
-        }
-    }
 }
 
 impl Bank for House {
@@ -97,18 +44,11 @@ impl Bank for House {
         self.rules.cites(rule)
     }
 
-    fn applies(&self, rule: u16, v: &Vocabulary, on: Principals, x: &[u64; 16]) -> bool {
-        self.rules.applies(rule, v, on, x)
+    fn applies(&self, rule: u16, at: &Premise) -> bool {
+        self.rules.applies(rule, at)
     }
 
-    fn conclusion(
-        &self,
-        rule: u16,
-        v: &Vocabulary,
-        on: Principals,
-        x: &[u64; 16],
-        i: u8,
-    ) -> [u64; 16] {
-        self.rules.conclusion(rule, v, on, x, i)
+    fn conclusion(&self, rule: u16, at: &Premise, i: u8) -> [u64; 16] {
+        self.rules.conclusion(rule, at, i)
     }
 }

@@ -12,5 +12,5 @@ pub fn house() -> House
     ensures table { HouseIsTheTable }
     ensures lawful { LawfulCalculus house }
 {
-    House::new()
+    House::default()
 }

@@ -2,6 +2,7 @@
 use Rattle.std.proofs.Common.{◌≡◌, ℕ, ◌/◌, ◌<◌, ◌≤◌, Bool, true, false, cond, T, eqb, ltb, length, get_or, Some, None, Option, refl, ap, ◌∙◌, ⊎_elim, arith}
 use mathlib.Core.List.{Memᴰ}
 use Rattle.std.proofs.lemmas.Bool.{and_parts, and_from, eqb-true, eq-eqb, ltb-true, lt-ltb, cases_lt, both_ways}
+use Rattle.std.proofs.lemmas.Float.{T_from_true}
 use Rattle.bits.specs.Bits.{bit}
 use Rattle.bits.proofs.BitFacts.{has_past}
 use Rattle.logic.specs.declared.concept.Concept.{Concept}
@@ -68,16 +69,12 @@ T_true : (b : Bool) → T b → b ≡ true
 T_true true h = refl
 T_true false h = absurd h
 
-true_T : (b : Bool) → b ≡ true → T b
-true_T true h = tt
-true_T false h = never h
-
 module _ (v : Vocabulary) (kept : Kept v) where
   pub true_below : (r s : ℕ) → is_below v.roles r s ≡ true → Below (role_axioms v.roles) r s
   true_below r s h =
       let p = and_parts (ltb r 128) _ h in
       let q = and_parts (ltb s 128) (cell v.roles.below 128 r s) p.1 in
-      (kept.roles_kept.below r s (ltb-true r 128 p.0) (ltb-true s 128 q.0)).0 (true_T (cell v.roles.below 128 r s) q.1)
+      (kept.roles_kept.below r s (ltb-true r 128 p.0) (ltb-true s 128 q.0)).0 (T_from_true (cell v.roles.below 128 r s) q.1)
 
   pub below_true : (r s : ℕ) → r < 128 → s < 128 → Below (role_axioms v.roles) r s → is_below v.roles r s ≡ true
   below_true r s lr ls b =
@@ -87,7 +84,7 @@ module _ (v : Vocabulary) (kept : Kept v) where
   pub true_transitive : (r : ℕ) → is_transitive v.roles r ≡ true → Transitive (role_axioms v.roles) r
   true_transitive r h =
       let p = and_parts (ltb r 128) (bit v.roles.transitive (r / 2)) h in
-      (kept.roles_kept.transitive r (ltb-true r 128 p.0)).0 (true_T (bit v.roles.transitive (r / 2)) p.1)
+      (kept.roles_kept.transitive r (ltb-true r 128 p.0)).0 (T_from_true (bit v.roles.transitive (r / 2)) p.1)
 
   pub transitive_true : (r : ℕ) → r < 128 → Transitive (role_axioms v.roles) r → is_transitive v.roles r ≡ true
   transitive_true r l t =

@@ -1,11 +1,11 @@
 -- Rows with numbers put in, cut to those that stand.
-use Rattle.std.proofs.Common.{◌≡◌, ℕ, ◌*◌, ◌<◌, Bool, true, false, ◌&&◌, ◌||◌, ltb, List, length, sym, refl, ap, ◌∙◌}
+use Rattle.std.proofs.Common.{◌≡◌, ℕ, ◌*◌, Bool, true, false, ◌&&◌, ◌||◌, ltb, List, length, sym, refl, ap, ◌∙◌}
 use mathlib.Core.Bool.{or_comm}
-use Rattle.std.proofs.lemmas.Bool.{lt-ltb}
+use Rattle.std.proofs.Math.Bool.{and_self_left}
 use Rattle.bits.specs.Bits.{has}
 use Rattle.labels.specs.Labels.{Row, among, filled}
 use Rattle.labels.proofs.RowFacts.{filled_has}
-use Rattle.vocabulary.specs.declared.Vocabulary.{Vocabulary}
+use Rattle.calculus.specs.declared.premise.Premise.{Premise}
 use Rattle.vocabulary.specs.Vocabularies.{concepts}
 
 within : (b t a h : Bool) → (b && (t && ((b && a) || h))) ≡ (b && (t && (h || a)))
@@ -22,36 +22,23 @@ extended_row row all added r count size e (sixteen, cut) = (
       ∙ within (ltb c 1024) (ltb c count) (among added c) (has row c),
 )
 
-again : (b t : Bool) → (b && t) ≡ (b && (b && t))
-again true t = refl
-again false t = refl
+-- a conclusion that the step has, from a row of what it shows
+pub concluded_row : (r : List ℕ) (shown lists : ℕ → Bool) {held : Bool} → held ≡ true → ((c : ℕ) → shown c ≡ lists c)
+    → Row r shown → Row r (λ c. held && (ltb c 1024 && lists c))
+concluded_row r shown lists a e (sixteen, same) =
+    (sixteen, λ c. same c ∙ ap (λ z. ltb c 1024 && z) (e c) ∙ rw a (sym (and_self_left (ltb c 1024) (lists c))))
 
--- a conclusion of a step that applies: the label with `given` put in, which is what the rule adds
-pub concluded_row : (v : Vocabulary) (x r given added : List ℕ) (cites i : ℕ) (applies : Bool) → i < cites → applies ≡ true → given ≡ added
-    → Row r (λ c. ltb c (length (concepts v)) && (has x c || among given c))
-    → Row r (λ c. (ltb i cites && applies) && (ltb c 1024 && (ltb c (length (concepts v)) && (has x c || among added c))))
-concluded_row v x r given added cites i applies l a e (sixteen, same) = (
-  sixteen,
-  λ c.
-      let shown : List ℕ → Bool = λ m. ltb c (length (concepts v)) && (has x c || among m c) in
-      same c ∙ again (ltb c 1024) (shown given)
-      ∙ ap (λ m. ltb c 1024 && (ltb c 1024 && shown m)) e
-      ∙ sym (ap (λ z. ltb c 1024 && ((z && applies) && (ltb c 1024 && shown added))) (lt-ltb i cites l)
-      ∙ ap (λ z. ltb c 1024 && (z && (ltb c 1024 && shown added))) a),
-)
+-- the label with `given` put in, which is what the rule adds
+pub added_row : (at : Premise) (r : List ℕ) {given added : List ℕ} {held : Bool} → held ≡ true → given ≡ added
+    → Row r (λ c. ltb c (length (concepts at.vocabulary.now)) && (has at.label.now c || among given c))
+    → Row r (λ c. held && (ltb c 1024 && (ltb c (length (concepts at.vocabulary.now)) && (has at.label.now c || among added c))))
+added_row at r a e = concluded_row r _ _ a (λ c. ap (λ m. ltb c (length (concepts at.vocabulary.now)) && (has at.label.now c || among m c)) e)
 
-narrowed : (b t s : Bool) → (b && (t && (b && s))) ≡ (b && (b && (t && s)))
+narrowed : (b t s : Bool) → (b && (t && (b && s))) ≡ (b && (t && s))
 narrowed true t s = refl
 narrowed false t s = refl
 
--- a conclusion of a step that applies, from a row of all that it lists
-pub cut_row : (row r : List ℕ) (cites i count : ℕ) (applies : Bool) (shown lists : ℕ → Bool) → i < cites → applies ≡ true → ((c : ℕ) → shown c ≡ lists c)
-    → Row row shown → Row r (λ c. ltb c count && has row c) → Row r (λ c. (ltb i cites && applies) && (ltb c 1024 && (ltb c count && lists c)))
-cut_row row r cites i count applies shown lists l a e (_, all) (sixteen, cut) = (
-  sixteen,
-  λ c.
-      cut c ∙ ap (λ z. ltb c 1024 && (ltb c count && z)) (all c ∙ ap (λ z. ltb c 1024 && z) (e c))
-      ∙ narrowed (ltb c 1024) (ltb c count) (lists c)
-      ∙ sym (ap (λ z. ltb c 1024 && ((z && applies) && (ltb c 1024 && (ltb c count && lists c)))) (lt-ltb i cites l)
-      ∙ ap (λ z. ltb c 1024 && (z && (ltb c 1024 && (ltb c count && lists c)))) a),
-)
+-- what stands of a row
+pub cut_row : (row r : List ℕ) (count : ℕ) (shown : ℕ → Bool) → Row row shown → Row r (λ c. ltb c count && has row c) → Row r (λ c. ltb c count && shown c)
+cut_row row r count shown (_, all) (sixteen, cut) =
+    (sixteen, λ c. cut c ∙ ap (λ z. ltb c 1024 && (ltb c count && z)) (all c) ∙ narrowed (ltb c 1024) (ltb c count) (shown c))

@@ -12,8 +12,9 @@ use Rattle.vocabulary.specs.Mates.{are_mates}
 use Rattle.vocabulary.specs.Roles.{is_below, is_transitive}
 use Rattle.vocabulary.specs.Vocabularies.{concepts, concept_at, is_axiom}
 use Rattle.calculus.specs.declared.rule.Principals.{Principals}
+use Rattle.calculus.specs.Premises.{p_alone}
 use Rattle.schemas.specs.Table.{Applies, bottom, clash, conjunction, disjunction, narrower, general, cut, inverse_cut, transitive_cut, neighbour, conclusions, Lists, kept, first_part, second_part, first_case, second_case, the_narrower, the_general, cut_p, cut_q, inverse_p, inverse_q, inverse_s, transitive_p, transitive_q, transitive_s, asked, passed, carried, of_all}
-use Rattle.schemas.specs.Tests.{tagged, first_of, second_of, p_alone, some_below}
+use Rattle.schemas.specs.Tests.{tagged, first_of, second_of, some_below}
 use Rattle.schemas.specs.House.{p_or_q_s, passes, carries, gives, bottom as bottom-rule, clash as clash-rule, conjunction as conjunction-rule, disjunction as disjunction-rule, narrower as narrower-rule, general as general-rule, cut as cut-rule, inverse_cut as inverse-cut-rule, transitive_cut as transitive-cut-rule, neighbour as neighbour-rule}
 use Rattle.schemas.proofs.Entries.{never, tagged_at, true_mates, true_below, true_transitive, true_axiom}
 use Rattle.schemas.proofs.SomeBelow.{some_there}
@@ -121,55 +122,55 @@ module _ (v : Vocabulary) (keeps : Kept v) (on : Principals) (x : List ℕ) wher
   p_is : (t : ℕ) → (has x on.p && (tagged t (concept_at v on.p) && p_alone on)) ≡ true → tagged t (concept_at v on.p) ≡ true
   p_is t h = (and_parts (tagged t (concept_at v on.p)) (p_alone on) (and_parts (has x on.p) _ h).1).0
 
-  -- X is kept, and each of the concepts that are added is in the table
-  keeping : (n i c : ℕ) (added : Bool) → 3 ≤ n → n ≤ 9 → i < get_or conclusions (n - 1) 0 → (has x c || added) ≡ true → (added ≡ true → Has n i c) → Has n i c
-  keeping n i c added l u b h f = ⊎_elim (λ k. kept l u b k) f (or_cases (has x c) added h)
+  -- X is kept, and what is added is in the table
+  keeping : (n i c : ℕ) (added : Bool) → 3 ≤ n → n ≤ 9 → i < get_or conclusions (n - 1) 0 → (added ≡ true → Has n i c) → (has x c || added) ≡ true → Has n i c
+  keeping n i c added l u b f h = ⊎_elim (λ k. kept l u b k) f (or_cases (has x c) added h)
+
+  -- one concept is added
+  adds_one : (n i a c : ℕ) → 3 ≤ n → n ≤ 9 → i < get_or conclusions (n - 1) 0 → Has n i a → (has x c || among (a ∷ []) c) ≡ true → Has n i c
+  adds_one n i a c l u b one = keeping n i c _ l u b (λ k. subst (λ (d : ℕ). Has n i d) (among_one a c k) one)
+
+  -- two are
+  adds_two : (n i a b c : ℕ) → 3 ≤ n → n ≤ 9 → i < get_or conclusions (n - 1) 0 → Has n i a → Has n i b → (has x c || among (a ∷ b ∷ []) c) ≡ true → Has n i c
+  adds_two n i a b c l u m one two = keeping n i c _ l u m
+      (λ k. ⊎_elim (λ e. subst (λ (d : ℕ). Has n i d) e one) (λ e. subst (λ (d : ℕ). Has n i d) e two) (among_two a b c k))
 
   pub has_3 : conjunction-rule.applies v on x ≡ true → (i c : ℕ) → i < 1
       → (has x c || among (first_of (concept_at v on.p) ∷ second_of (concept_at v on.p) ∷ []) c) ≡ true → Has 3 i c
-  has_3 h zero c l r = keeping 3 0 c _ (omega arith) (omega arith) (omega arith) r (λ k. ⊎_elim
-      (λ e. subst (λ (d : ℕ). Has 3 0 d) e (first_part (tagged_at v on.p 4 (p_is 4 h))))
-      (λ e. subst (λ (d : ℕ). Has 3 0 d) e (second_part (tagged_at v on.p 4 (p_is 4 h))))
-      (among_two (first_of (concept_at v on.p)) (second_of (concept_at v on.p)) c k))
-  has_3 h (suc i) c l r = absurd (omega arith)
+  has_3 h zero c l = let a = tagged_at v on.p 4 (p_is 4 h) in adds_two 3 0 _ _ c (omega arith) (omega arith) (omega arith) (first_part a) (second_part a)
+  has_3 h (suc i) c l = absurd (omega arith)
 
   pub has_4 : disjunction-rule.applies v on x ≡ true → (i c : ℕ) → i < 2
       → (has x c || among (cond (eqb i 0) (first_of (concept_at v on.p)) (second_of (concept_at v on.p)) ∷ []) c) ≡ true → Has 4 i c
-  has_4 h zero c l r = keeping 4 0 c _ (omega arith) (omega arith) (omega arith) r (λ k.
-      subst (λ (d : ℕ). Has 4 0 d) (among_one (first_of (concept_at v on.p)) c k) (first_case (tagged_at v on.p 5 (p_is 5 h))))
-  has_4 h (suc zero) c l r = keeping 4 1 c _ (omega arith) (omega arith) (omega arith) r (λ k.
-      subst (λ (d : ℕ). Has 4 1 d) (among_one (second_of (concept_at v on.p)) c k) (second_case (tagged_at v on.p 5 (p_is 5 h))))
-  has_4 h (suc (suc i)) c l r = absurd (omega arith)
+  has_4 h zero c l = adds_one 4 0 _ c (omega arith) (omega arith) (omega arith) (first_case (tagged_at v on.p 5 (p_is 5 h)))
+  has_4 h (suc zero) c l = adds_one 4 1 _ c (omega arith) (omega arith) (omega arith) (second_case (tagged_at v on.p 5 (p_is 5 h)))
+  has_4 h (suc (suc i)) c l = absurd (omega arith)
 
   pub has_5 : (i c : ℕ) → i < 1 → (has x c || among (on.q ∷ []) c) ≡ true → Has 5 i c
-  has_5 zero c l r = keeping 5 0 c _ (omega arith) (omega arith) (omega arith) r (λ k. subst (λ (d : ℕ). Has 5 0 d) (among_one on.q c k) the_narrower)
-  has_5 (suc i) c l r = absurd (omega arith)
+  has_5 zero c l = adds_one 5 0 on.q c (omega arith) (omega arith) (omega arith) the_narrower
+  has_5 (suc i) c l = absurd (omega arith)
 
   pub has_6 : (i c : ℕ) → i < 1 → (has x c || among (on.p ∷ []) c) ≡ true → Has 6 i c
-  has_6 zero c l r = keeping 6 0 c _ (omega arith) (omega arith) (omega arith) r (λ k. subst (λ (d : ℕ). Has 6 0 d) (among_one on.p c k) the_general)
-  has_6 (suc i) c l r = absurd (omega arith)
+  has_6 zero c l = adds_one 6 0 on.p c (omega arith) (omega arith) (omega arith) the_general
+  has_6 (suc i) c l = absurd (omega arith)
 
   pub has_7 : (i c : ℕ) → i < 2 → (has x c || among (cond (eqb i 0) on.p on.q ∷ []) c) ≡ true → Has 7 i c
-  has_7 zero c l r = keeping 7 0 c _ (omega arith) (omega arith) (omega arith) r (λ k. subst (λ (d : ℕ). Has 7 0 d) (among_one on.p c k) cut_p)
-  has_7 (suc zero) c l r = keeping 7 1 c _ (omega arith) (omega arith) (omega arith) r (λ k. subst (λ (d : ℕ). Has 7 1 d) (among_one on.q c k) cut_q)
-  has_7 (suc (suc i)) c l r = absurd (omega arith)
+  has_7 zero c l = adds_one 7 0 on.p c (omega arith) (omega arith) (omega arith) cut_p
+  has_7 (suc zero) c l = adds_one 7 1 on.q c (omega arith) (omega arith) (omega arith) cut_q
+  has_7 (suc (suc i)) c l = absurd (omega arith)
 
   -- rules 8 and 9
   p_or_q_s_in : (n i c : ℕ) → 3 ≤ n → n ≤ 9 → get_or conclusions (n - 1) 0 ≡ 2 → i < 2 → Has n 0 on.p → Has n 1 on.q → Has n 1 on.s
       → (has x c || among (p_or_q_s on i) c) ≡ true → Has n i c
-  p_or_q_s_in n zero c l u two b has_p has-q has-s r =
-      keeping n 0 c _ l u (omega arith) r (λ k. subst (λ (d : ℕ). Has n 0 d) (among_one on.p c k) has_p)
-  p_or_q_s_in n (suc zero) c l u two b has_p has-q has-s r = keeping n 1 c _ l u (omega arith) r (λ k. ⊎_elim
-      (λ e. subst (λ (d : ℕ). Has n 1 d) e has-q)
-      (λ e. subst (λ (d : ℕ). Has n 1 d) e has-s)
-      (among_two on.q on.s c k))
-  p_or_q_s_in n (suc (suc i)) c l u two b has_p has-q has-s r = absurd (omega arith)
+  p_or_q_s_in n zero c l u two b has_p has-q has-s = adds_one n 0 on.p c l u (omega arith) has_p
+  p_or_q_s_in n (suc zero) c l u two b has_p has-q has-s = adds_two n 1 on.q on.s c l u (omega arith) has-q has-s
+  p_or_q_s_in n (suc (suc i)) c l u two b has_p has-q has-s = absurd (omega arith)
 
   pub has_8 : (i c : ℕ) → i < 2 → (has x c || among (p_or_q_s on i) c) ≡ true → Has 8 i c
-  has_8 i c b r = p_or_q_s_in 8 i c (omega arith) (omega arith) refl b inverse_p inverse_q inverse_s r
+  has_8 i c b = p_or_q_s_in 8 i c (omega arith) (omega arith) refl b inverse_p inverse_q inverse_s
 
   pub has_9 : (i c : ℕ) → i < 2 → (has x c || among (p_or_q_s on i) c) ≡ true → Has 9 i c
-  has_9 i c b r = p_or_q_s_in 9 i c (omega arith) (omega arith) refl b transitive_p transitive_q transitive_s r
+  has_9 i c b = p_or_q_s_in 9 i c (omega arith) (omega arith) refl b transitive_p transitive_q transitive_s
 
   -- what a concept of the label gives to a neighbour
   gives_10 : neighbour-rule.applies v on x ≡ true → (d c : ℕ) → has x d ≡ true → gives v (first_of (concept_at v on.p)) d c ≡ true → Has 10 0 c

@@ -1,5 +1,6 @@
 -- The house is lawful, and says exactly what the table says.
-use Rattle.std.proofs.Common.{◌≡◌, ℕ, zero, suc, ◌-◌, ◌≤◌, true, get_or, refl, arith}
+use Rattle.std.proofs.Common.{◌≡◌, ℕ, zero, suc, ◌-◌, ◌≤◌, Bool, true, ◌&&◌, eqb, get_or, refl, ap, ◌∙◌, arith}
+use Rattle.std.proofs.lemmas.Bool.{and_parts, eqb-true, agree_below_at}
 use Rattle.calculus.specs.Calculi.{LawfulCalculus}
 use Rattle.calculus.specs.Banks.{alone_lawful, beside_lawful}
 use Rattle.schemas.specs.Table.{conclusions}
@@ -35,17 +36,11 @@ house_agrees =
 -- the rules 1 to 10, one by one
 ten_there : (n : ℕ) → 1 ≤ n → n ≤ 10 → (house.has n ≡ true) × (house.cites n ≡ get_or conclusions (n - 1) 0)
 ten_there zero lo hi = absurd (omega arith)
-ten_there (suc zero) lo hi = (refl, refl)
-ten_there (suc (suc zero)) lo hi = (refl, refl)
-ten_there (suc (suc (suc zero))) lo hi = (refl, refl)
-ten_there (suc (suc (suc (suc zero)))) lo hi = (refl, refl)
-ten_there (suc (suc (suc (suc (suc zero))))) lo hi = (refl, refl)
-ten_there (suc (suc (suc (suc (suc (suc zero)))))) lo hi = (refl, refl)
-ten_there (suc (suc (suc (suc (suc (suc (suc zero))))))) lo hi = (refl, refl)
-ten_there (suc (suc (suc (suc (suc (suc (suc (suc zero)))))))) lo hi = (refl, refl)
-ten_there (suc (suc (suc (suc (suc (suc (suc (suc (suc zero))))))))) lo hi = (refl, refl)
-ten_there (suc (suc (suc (suc (suc (suc (suc (suc (suc (suc zero)))))))))) lo hi = (refl, refl)
-ten_there (suc (suc (suc (suc (suc (suc (suc (suc (suc (suc (suc n))))))))))) lo hi = absurd (omega arith)
+ten_there (suc k) lo hi =
+    let said : ℕ → Bool = λ k. house.has (suc k) && eqb (house.cites (suc k)) (get_or conclusions k 0) in
+    let (a, b) = and_parts (house.has (suc k)) _ (agree_below_at said (λ k. true) 10 k refl (omega arith)) in
+    let e : k ≡ suc k - 1 = omega arith in
+    (a, eqb-true (house.cites (suc k)) (get_or conclusions k 0) b ∙ ap (λ m. get_or conclusions m 0) e)
 
 pub house_is_the_table : HouseIsTheTable
 house_is_the_table = record {

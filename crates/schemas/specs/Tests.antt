@@ -1,8 +1,7 @@
 -- What the rules ask of a concept, as tests.
-use Rattle.std.specs.Prelude.{ℕ, zero, suc, Bool, false, ◌&&◌, ◌||◌, Some, None, Option, ◌==◌}
+use Rattle.std.specs.Prelude.{ℕ, zero, suc, Bool, false, ◌||◌, Some, None, Option, ◌==◌}
 use Rattle.logic.specs.declared.concept.Concept.{Concept}
 use Rattle.logic.specs.Concepts.{tag, first, second}
-use Rattle.calculus.specs.declared.rule.Principals.{Principals}
 
 -- it stands, and its tag is t: 1 Bottom, 4 And, 5 Or, 6 Only, 7 Exists
 abbrev pub tagged : ℕ → Option Concept → Bool
@@ -17,10 +16,6 @@ first_of (Some k) = first k
 abbrev pub second_of : Option Concept → ℕ
 second_of None = 0
 second_of (Some k) = second k
-
--- the step names p alone
-abbrev pub p_alone : Principals → Bool
-p_alone on = on.q == 0 && on.s == 0
 
 -- some number below n passes the test
 unfoldable pub some_below : ℕ → (ℕ → Bool) → Bool

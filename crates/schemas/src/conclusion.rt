@@ -1,11 +1,11 @@
 ghost use Rattle.std.specs.Prelude.{◌≡◌, false, ◌&&◌, ◌||◌, length, nat_lt};
 ghost use Rattle.bits.specs.Bits.{has};
-ghost use Rattle.labels.specs.Labels.{Row, among};
+ghost use Rattle.labels.specs.Labels.{Row, among, filled};
 ghost use Rattle.vocabulary.specs.Vocabularies.{concepts};
 
 use bits::insert;
+use calculus::premise::Premise;
 use labels::rows::cut_to;
-use vocabulary::Vocabulary;
 
 // Conclusions as rows.
 
@@ -16,13 +16,20 @@ pub fn nothing() -> [u64; 16]
     [0; 16]
 }
 
-// The standing concepts of a row, with those in `added`.
-pub fn extended(v: &Vocabulary, row: &[u64; 16], added: &[u16]) -> [u64; 16]
-    ensures { Row result (λ c. nat_lt c (length (concepts v.now)) && (has row.now c || among added.now c)) }
+// The row with the numbers in `added`.
+fn filled(row: &[u64; 16], added: &[u16]) -> [u64; 16]
+    ensures { result ≡ filled row.now added.now }
 {
     let mut all = *row;
     for c in added {
         insert(&mut all, *c as usize);
     }
-    cut_to(&all, v.len())
+    all
+}
+
+// The standing concepts of the label, with those in `added`.
+pub fn extended(at: &Premise, added: &[u16]) -> [u64; 16]
+    ensures { Row result (λ c. nat_lt c (length (concepts at.now.vocabulary.now)) && (has at.now.label.now c || among added.now c)) }
+{
+    cut_to(&filled(at.label, added), at.vocabulary.len())
 }

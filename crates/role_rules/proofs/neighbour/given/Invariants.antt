@@ -1,4 +1,4 @@
-use Rattle.std.proofs.Common.{◌-◌, ◌≤◌, ◌&&◌, ◌||◌, eqb}
+use Rattle.std.proofs.Common.{◌≡◌, ◌≤◌, ◌&&◌, ◌||◌, eqb}
 use Rattle.bits.specs.Bits.{has}
 use Rattle.labels.specs.Labels.{Row}
 use Rattle.vocabulary.specs.Vocabularies.{is_axiom}
@@ -7,7 +7,6 @@ use Rattle.schemas.specs.Tests.{some_below}
 use Rattle.role_rules.proofs.neighbour.given.Given as goal
 
 abbrev pub invariant-loop-d : goal.invariant-loop-d
-invariant-loop-d l = (l.from ≤ 1024) × Row l.row (λ k. (eqb l.c k || is_axiom l.v k) || some_below l.from (λ d. has l.x d && gives l.v l.r d k))
-
-abbrev pub decreases-loop-d : goal.decreases-loop-d
-decreases-loop-d l = 1024 - l.from
+invariant-loop-d l =
+    (l.d-iterator.row.now ≡ l.at.label.now) × (l.d-iterator.from ≤ 1024)
+    × Row l.row (λ k. (eqb l.c k || is_axiom l.at.vocabulary.now k) || some_below l.d-iterator.from (λ d. has l.at.label.now d && gives l.at.vocabulary.now l.r d k))

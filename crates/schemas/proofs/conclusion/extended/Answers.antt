@@ -1,22 +1,15 @@
-use Rattle.std.proofs.Common.{◌≡◌, ℕ, ◌+◌, ◌&&◌, ltb, List, length, drop, sym, ap, ◌∙◌, subst, arith}
-use Rattle.std.proofs.lemmas.List.{at_drop_more, at_drop_all}
+use Rattle.std.proofs.Common.{◌≡◌, ℕ, ◌&&◌, ltb, length, sym, ap, ◌∙◌, subst, arith}
 use Rattle.bits.specs.Bits.{has}
-use Rattle.labels.specs.Labels.{Row, filled}
+use Rattle.labels.specs.Labels.{Row}
+use Rattle.labels.proofs.RowFacts.{filled_length}
 use Rattle.schemas.proofs.Extending.{extended_row}
 use Rattle.schemas.proofs.conclusion.extended.Goals as goal
 
-pub loop-c-preserved : goal.loop-c-preserved
-loop-c-preserved c =
-    let added = c.args.added.now in
-    let i = c.loop-c.c-index in
-    let (size, same) = c.loop-c.invariant in
-    let more = at_drop_more (λ (xs : List ℕ). filled c.loop-c.all xs) added i 0 (omega arith) in
-    (omega arith, ap (λ w. filled w (drop (i + 1) added)) c.insert.ensures ∙ sym more ∙ same)
-
 pub returns : goal.returns
 returns c =
-    let (size, same) = c.loop-c.invariant in
-    let all = sym (at_drop_all (λ (xs : List ℕ). filled c.loop-c.all xs) c.args.added.now c.loop-c.c-index (omega arith)) ∙ same in
-    let sixteen : length c.args.row.now ≡ 16 = omega arith in
-    extended_row c.args.row.now c.loop-c.all c.args.added.now c.cut_to.result _ sixteen all
-    (subst (λ (n : ℕ). Row c.cut_to.result (λ k. ltb k n && has c.loop-c.all k)) c.len.ensures c.cut_to.ensures)
+    let label = c.args.at.now.label.now in
+    let added = c.args.added.now in
+    let all : length c.filled.result ≡ 16 = omega arith in
+    let sixteen : length label ≡ 16 = sym (filled_length label added) ∙ sym (ap length c.filled.ensures) ∙ all in
+    extended_row label c.filled.result added c.cut_to.result _ sixteen c.filled.ensures
+    (subst (λ (n : ℕ). Row c.cut_to.result (λ k. ltb k n && has c.filled.result k)) c.len.ensures c.cut_to.ensures)

@@ -5,4 +5,4 @@ use Rattle.calculus.proofs.rule.Rule.next.Goals as goal
 
 pub returns : goal.returns
 returns g c = c.next_from.ensures ∙ least_ext 1024 _ _ (λ k l.
-    ap (λ b. leb c.args.c k && b) (c.conclusion-row.ensures.1 k ∙ ap (λ b. b && (g.Self.Rule.schema c.args.self.now).concludes c.args.v.now c.args.on c.args.x.now c.args.i k) (lt-ltb k 1024 l)))
+    ap (λ b. leb c.args.c k && b) (c.conclusion-row.ensures.1 k ∙ ap (λ b. b && (g.Self.Rule.schema c.args.self.now).concludes c.args.at.now.vocabulary.now c.args.at.now.on c.args.at.now.label.now c.args.i k) (lt-ltb k 1024 l)))

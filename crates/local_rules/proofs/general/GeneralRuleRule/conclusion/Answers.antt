@@ -1,10 +1,6 @@
-use native.Mathlib.Omega.{arith}
-use mathlib.Core.List.{[], ◌∷◌}
-use mathlib.Core.Path.{refl, sym}
+use Rattle.std.proofs.Common.{refl, rules}
 use Rattle.schemas.proofs.Extending.{concluded_row}
 use Rattle.local_rules.proofs.general.GeneralRuleRule.conclusion.Goals as goal
 
-pub returns : goal.returns
-returns c =
-    concluded_row c.args.v.now c.args.x.now c.extended.result (c.args.on.p ∷ []) (c.args.on.p ∷ []) 1 c.args.i _
-    (omega arith) (sym c.if-not-applies.ensures) refl c.extended.ensures
+pub returns-then-has_conclusion : goal.returns-then-has_conclusion
+returns-then-has_conclusion c = concluded_row c.extended.result _ _ (search rules) (λ k. refl) c.extended.ensures
