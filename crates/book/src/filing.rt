@@ -3,7 +3,7 @@ ghost use Rattle.book.specs.Lines.{label_of};
 ghost use Rattle.book.specs.Drafts.{Checked, RowsAreRight, Passed, range_rows, absent_rows, unfit, least_outside, conclusion};
 
 use crate::line::{Cited, Line, Step};
-use crate::members::{check_rising, check_standing};
+use crate::members::{check_rising, check_standing, check_stands};
 use calculus::bank::Bank;
 use calculus::premise::Premise;
 use calculus::rule::Principals;
@@ -45,21 +45,15 @@ fn check_named<B: Bank>(bank: &B, v: &Vocabulary, lines: &[Line], f: &Draft) -> 
     ensures { Passed (absent_rows (B.Bank.calculus bank.now) v.now lines.now f.now) result }
 {
     let count = v.len();
-    if f.on.p as usize >= count {
-        return Err(Refusal::Absent(1));
-    }
-    if f.on.q as usize >= count {
-        return Err(Refusal::Absent(2));
-    }
-    if f.on.s as usize >= count {
-        return Err(Refusal::Absent(3));
-    }
+    check_stands(f.on.p, count, 1)?;
+    check_stands(f.on.q, count, 2)?;
+    check_stands(f.on.s, count, 3)?;
     let cites = bank.cites(f.rule);
-    if cites > 0 && f.m as usize >= lines.len() {
-        return Err(Refusal::Absent(4));
+    if cites > 0 {
+        check_stands(f.m, lines.len(), 4)?;
     }
-    if cites > 1 && f.n as usize >= lines.len() {
-        return Err(Refusal::Absent(5));
+    if cites > 1 {
+        check_stands(f.n, lines.len(), 5)?;
     }
     check_standing(f.members, count, 6)
 }
@@ -88,11 +82,9 @@ fn outside_conclusion<B: Bank>(
 pub fn label_of(lines: &[Line], k: u16) -> [u64; 16]
     ensures { result ≡ label_of lines.now k }
 {
-    let k = k as usize;
-    if k < lines.len() {
-        lines[k].label
-    } else {
-        [0; 16]
+    match lines.get(k as usize) {
+        Some(line) => line.label,
+        None => [0; 16],
     }
 }
 

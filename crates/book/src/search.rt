@@ -15,10 +15,5 @@ fn is_within(y: &[u64; 16], x: &[u64; 16]) -> bool
 pub fn find_within(lines: &[Line], x: &[u64; 16]) -> Option<usize>
     ensures { result ≡ first_within lines.now x.now }
 {
-    for (k, line) in lines.iter().enumerate() {
-        if is_within(&line.label, x) {
-            return Some(k);
-        }
-    }
-    None
+    lines.iter().position(|line| is_within(&line.label, x))
 }

@@ -1,9 +1,9 @@
 #![tactic(auto)]
 
-ghost use Rattle.std.specs.Prelude.{◌≡◌, ◌≤◌, [], length, nat_le, slice_get};
+ghost use Rattle.std.specs.Prelude.{◌≡◌, ◌<◌, ◌≤◌, [], length, MatchOption, nat_le};
 ghost use Rattle.std.specs.Option.{is_some};
 ghost use Rattle.claims.specs.declared.Status.TheVariants.{Open, Empty, Inhabited};
-ghost use Rattle.claims.specs.Claiming.{filed, is_unsettled, tallied, Added, Settled};
+ghost use Rattle.claims.specs.Claiming.{filed, claim_at, is_unsettled, tallied, Added, Settled};
 
 use register::bounded::Bounded;
 
@@ -69,7 +69,7 @@ impl Claims {
 
     // The claim with this number, if there is one.
     pub fn get(&self, number: u16) -> Option<Claim>
-        ensures { result ≡ slice_get (filed self.now) number }
+        ensures { MatchOption result (length (filed self.now) ≤ number) (λ c. (number < length (filed self.now)) × (c ≡ claim_at self.now number)) }
     {
         self.list().get(number as usize).copied()
     }

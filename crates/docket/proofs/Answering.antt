@@ -1,7 +1,12 @@
 -- The answers mean what they should, in every docket that is reached.
-use Rattle.std.proofs.Common.{◌≡◌, ℕ, ◌/◌, ◌<◌, Bool, true, false, T, ◌↔◌, List, [], ◌∷◌, Some, None, Ok, Option, sym, refl, ◌∙◌, subst, arith}
+use Rattle.std.proofs.Common.{◌≡◌, ℕ, ◌/◌, ◌<◌, Bool, true, false, leb, T, ◌↔◌, List, [], ◌∷◌, Some, None, Ok, Err, Option, Result, sym, refl, ◌∙◌, subst, arith}
 use Rattle.std.proofs.lemmas.Bool.{lt-ltb}
+use Rattle.refusals.specs.declared.Refusal.TheVariants.{Range}
+use Rattle.refusals.specs.Checks.{when, first}
+use Rattle.refusals.proofs.Clearing.{clear, when_none, leb_false}
 use Rattle.bits.specs.Bits.{bit}
+use Rattle.register.specs.declared.store.Unfit.{Unfit}
+use Rattle.register.specs.declared.store.Unfit.TheVariants.{Refers, Full}
 use Rattle.logic.specs.declared.concept.Concept.{Concept}
 use Rattle.logic.specs.Meaning.{LiesIn}
 use Rattle.logic.proofs.RoleFacts.{below_is_sound, transitive_is_sound}
@@ -29,6 +34,10 @@ T_is false h = absurd h
 through : (b c : Bool) (P : Type 0) → b ≡ c → T c ↔ P → b ≡ true ↔ P
 through b c P e h = (λ k. h.0 (is_T c (sym e ∙ k)), λ p. e ∙ T_is c (h.1 p))
 
+-- a number that is not refused as a role is one
+pub role_fits : (r p : ℕ) → first (when (leb 128 r) (Range p) ∷ []) ≡ None → r < 128
+role_fits r p h = leb_false 128 r (when_none (leb 128 r) (Range p) (clear (when (leb 128 r) (Range p) ∷ []) h).0)
+
 pub says_below : (d : Docket) (r s : ℕ) (b : Bool) → r < 128 → s < 128 → b ≡ is_below d.vocabulary.roles r s → Reached d → SaysBelow d r s b
 says_below d r s b lr ls e p =
     let kept = (reached_kept d p).roles_kept in
@@ -54,6 +63,12 @@ pub means_the_same : (d : Docket) (w : Vocabulary) (k : Concept) (i : ℕ) → C
 means_the_same d w k i h p I c x l =
     subst (λ (cs : List Concept). LiesIn I (concepts d.vocabulary) c x ↔ LiesIn I cs c x) (sym h.0.3)
     (meanings_stay (concepts d.vocabulary) (k ∷ []) (reached_kept d p).concepts_kept.ordered I c x l)
+
+-- and so does one that is refused
+pub means_after : (d : Docket) (w : Vocabulary) (k : Concept) (r : Result ℕ Unfit) → ConceptFiled d.vocabulary w k r → Reached d → MeansTheSame d.vocabulary w
+means_after d w k (Ok i) h p = means_the_same d w k i h p
+means_after d w k (Err Refers) h p = λ I c x l. rw h.0.1 (λ t. t, λ t. t)
+means_after d w k (Err Full) h p = λ I c x l. rw h.0.2 (λ t. t, λ t. t)
 
 pub pairs : (d : Docket) (c e : ℕ) → pairable d.vocabulary c e ≡ true → Pairable d.vocabulary c e
 pairs d c e h = (pairable_is_decided d.vocabulary c e).0 h

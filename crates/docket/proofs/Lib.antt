@@ -1,4 +1,3 @@
 pub mod Reaching
 pub mod Answering
 pub mod Pushing
-pub mod Closing

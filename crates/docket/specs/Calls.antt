@@ -80,7 +80,7 @@ rows seal d = []
 rows (line k f) d = draft_rows k d.vocabulary (lines d) (room d.book) f
 rows (claim ms) d =
     with (λ i. Absent (i + 0)) (absent_at (count d) ms)
-    ∷ when (nat_le 256 d.claims.count) (Full 256)
+    ∷ when (nat_le 256 (length (filed d.claims))) (Full 256)
     ∷ with (λ i. Order (i + 0)) (falling_at ms) ∷ []
 rows (close_empty c n) d =
     when (nat_le (length (filed d.claims)) c) (Absent 0)

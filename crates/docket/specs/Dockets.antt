@@ -29,7 +29,6 @@ pub record Fresh (d : Docket) : Type 0 where
   pub nothing_said : New d.vocabulary
   pub no_line : lines d ≡ []
   pub no_claim : filed d.claims ≡ []
-  pub none_counted : d.claims.count ≡ 0
   pub concept_room : (1 ≤ room d.vocabulary.concepts) × (room d.vocabulary.concepts ≤ 1024)
   pub line_room : (1 ≤ room d.book) × (room d.book ≤ 4096)
 

@@ -1,5 +1,6 @@
 pub mod Phases
 pub mod Fields
+pub mod Tags
 pub mod Dockets
 pub mod Calls
 pub mod Runs

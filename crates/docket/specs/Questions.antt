@@ -27,6 +27,9 @@ abbrev pub Answered : {A : Type 0} → List (Option Refusal) → (A → Type 0) 
 Answered rows R (Ok x) = (first rows ≡ None) × R x
 Answered rows R (Err f) = first rows ≡ Some f
 
+abbrev pub sealed_rows : Docket → List (Option Refusal)
+sealed_rows d = when (is_open d.phase) Phase ∷ []
+
 abbrev pub below_rows : Docket → ℕ → ℕ → List (Option Refusal)
 below_rows d r s = when (is_open d.phase) Phase ∷ when (nat_le 128 r) (Range 0) ∷ when (nat_le 128 s) (Range 1) ∷ []
 

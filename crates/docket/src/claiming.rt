@@ -6,7 +6,6 @@ ghost use Rattle.docket.specs.Calls.{Acts, claim, close_empty, close_inhabited};
 
 use crate::phase::Kind;
 use crate::{Answer, Docket};
-use book::filing::label_of;
 use book::members::{check_rising, check_standing};
 use claims::Status;
 use labels::members::row_of;
@@ -28,10 +27,9 @@ impl<'a> Docket<'a> {
             return Err(Refusal::Full(MOST_CLAIMS));
         }
         check_rising(members, 0)?;
-        match self.claims.add(row_of(members)) {
-            Some(number) => Ok(number),
-            None => Err(Refusal::Full(MOST_CLAIMS)),
-        }
+        self.claims
+            .add(row_of(members))
+            .ok_or(Refusal::Full(MOST_CLAIMS))
     }
 
     // Closes a claim as empty by a standing line whose label lies within its own.
@@ -39,24 +37,18 @@ impl<'a> Docket<'a> {
         ensures { Acts (close_empty claim line) self.old result self.new }
     {
         self.enter(Kind::Closing)?;
-        if claim as usize >= self.claims.len() {
-            return Err(Refusal::Absent(0));
-        }
-        if line as usize >= self.book.len() {
-            return Err(Refusal::Absent(1));
-        }
-        let claimed = self.claims.claim(claim);
+        let claimed = self.claims.get(claim).ok_or(Refusal::Absent(0))?;
+        let cited = self.book.get(line as usize).ok_or(Refusal::Absent(1))?;
         if !claimed.is_open() {
             return Err(Refusal::Closed(claim));
         }
-        if let Some(c) = first_outside(&label_of(self.book.entries(), line), &claimed.label) {
+        if let Some(c) = first_outside(&cited.label, &claimed.label) {
             return Err(Refusal::Outside(c));
         }
-        if self.claims.settle(claim, Status::Empty) {
-            Ok(0)
-        } else {
-            Err(Refusal::Absent(0))
-        }
+        self.claims
+            .settle(claim, Status::Empty)
+            .map(|()| 0)
+            .ok_or(Refusal::Absent(0))
     }
 
     // Closes a claim as inhabited by a model that meets the axioms and whose point lies in all of its label. The rows are
@@ -68,19 +60,15 @@ impl<'a> Docket<'a> {
         if rows.len() / 4 < self.vocabulary.len() {
             return Err(Refusal::Range(4 + (model.marks.len() + model.edges.len()) / 2));
         }
-        if claim as usize >= self.claims.len() {
-            return Err(Refusal::Absent(0));
-        }
-        let claimed = self.claims.claim(claim);
+        let claimed = self.claims.get(claim).ok_or(Refusal::Absent(0))?;
         if !claimed.is_open() {
             return Err(Refusal::Closed(claim));
         }
         judge(&self.vocabulary, &claimed.label, model, rows)?;
-        if self.claims.settle(claim, Status::Inhabited) {
-            Ok(0)
-        } else {
-            Err(Refusal::Absent(0))
-        }
+        self.claims
+            .settle(claim, Status::Inhabited)
+            .map(|()| 0)
+            .ok_or(Refusal::Absent(0))
     }
 
     // The open, the empty and the inhabited claims.

@@ -2,8 +2,7 @@ ghost use Rattle.std.specs.Prelude.{◌≡◌, ◌≤◌, ◌++◌, length, drop
 ghost use Rattle.docket.specs.Conclusions.{Inquired, Concluded};
 
 use crate::Docket;
-use crate::phase::Phase;
-use book::members::{check_rising, check_standing};
+use book::members::{check_rising, check_standing, check_stands};
 use calculus::bank::Bank;
 use calculus::premise::Premise;
 use calculus::rule::Principals;
@@ -28,7 +27,7 @@ fn write_row(memory: &mut [u64], row: &[u64; 16])
     requires { 16 ≤ length memory.old }
     ensures { memory.new ≡ row.now ++ drop 16 memory.old }
 {
-    memory[0..16].copy_from_slice(&row[..]);
+    memory[..WORDS].copy_from_slice(row);
 }
 
 impl<'a> Docket<'a> {
@@ -36,9 +35,7 @@ impl<'a> Docket<'a> {
     fn check_inquiry<B: Bank>(&self, bank: &B, asked: &Inquiry, words: usize) -> Result<u8, Refusal>
         ensures { Inquired (B.Bank.calculus bank.now) self.now asked.now words result }
     {
-        if let Phase::Open = self.phase {
-            return Err(Refusal::Phase);
-        }
+        self.check_sealed()?;
         if !bank.has(asked.rule) {
             return Err(Refusal::Range(0));
         }
@@ -49,15 +46,9 @@ impl<'a> Docket<'a> {
             return Err(Refusal::Range(5 + asked.members.len() / 2));
         }
         let count = self.vocabulary.len();
-        if asked.on.p as usize >= count {
-            return Err(Refusal::Absent(1));
-        }
-        if asked.on.q as usize >= count {
-            return Err(Refusal::Absent(2));
-        }
-        if asked.on.s as usize >= count {
-            return Err(Refusal::Absent(3));
-        }
+        check_stands(asked.on.p, count, 1)?;
+        check_stands(asked.on.q, count, 2)?;
+        check_stands(asked.on.s, count, 3)?;
         Ok(asked.index as u8)
     }
 

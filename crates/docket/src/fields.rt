@@ -1,6 +1,10 @@
-ghost use Rattle.std.specs.Prelude.{◌≡◌, not};
-ghost use Rattle.docket.specs.Fields.{use_of_first, use_of_second, out_of_range, absent, Read};
+ghost use Rattle.std.specs.Prelude.{[], ◌∷◌, nat_le};
+ghost use Rattle.refusals.specs.Checks.{when};
+ghost use Rattle.refusals.specs.declared.Refusal.TheVariants.{Range, Absent};
+ghost use Rattle.book.specs.Drafts.{Passed};
+ghost use Rattle.docket.specs.Fields.{out_of_range, absent, Read};
 
+use crate::tag::Tag;
 use logic::concept::Concept;
 use logic::role::ROLES;
 use refusals::Refusal;
@@ -9,7 +13,7 @@ use refusals::Refusal;
 const NAMES: usize = 1024;
 
 // What one of the two numbers behind a tag is.
-#[derive(Clone, Copy)]
+#[derive(Clone, Copy, Debug, PartialEq, Eq)]
 pub enum Use {
     Unused,
     Name,
@@ -17,81 +21,60 @@ pub enum Use {
     Concept,
 }
 
-// What the first number behind a tag is.
-fn use_of_first(tag: u16) -> Use
-    ensures { result ≡ use_of_first tag }
-{
-    match tag {
-        0..=1 => Use::Unused,
-        2..=3 => Use::Name,
-        4..=5 => Use::Concept,
-        _ => Use::Role,
-    }
-}
-
-// What the second number behind a tag is.
-fn use_of_second(tag: u16) -> Use
-    ensures { result ≡ use_of_second tag }
-{
-    match tag {
-        0..=3 => Use::Unused,
-        _ => Use::Concept,
-    }
-}
-
 impl Use {
-    // Whether the number is out of its range, whatever stands.
-    fn out_of_range(self, number: u16) -> bool
-        ensures { result ≡ out_of_range self number }
+    // Whether the number at this position is in its range, whatever stands.
+    fn check_range(self, number: u16, position: u8) -> Result<(), Refusal>
+        ensures { Passed (when (out_of_range self number) (Range position) ∷ []) result }
     {
-        match self {
-            Use::Unused => number != 0,
-            Use::Name => number as usize >= NAMES,
-            Use::Role => number as usize >= ROLES,
-            Use::Concept => false,
+        let fits = match self {
+            Use::Unused => number == 0,
+            Use::Name => (number as usize) < NAMES,
+            Use::Role => (number as usize) < ROLES,
+            Use::Concept => true,
+        };
+        if fits {
+            Ok(())
+        } else {
+            Err(Refusal::Range(position as usize))
         }
     }
 
-    // Whether the number names a concept that doesn't stand, where `count` concepts do.
-    fn absent(self, count: usize, number: u16) -> bool
-        ensures { result ≡ absent self count number }
+    // Whether the number at this position, if it names a concept, names one of the `count` that stand.
+    fn check_stands(self, number: u16, count: usize, position: u8) -> Result<(), Refusal>
+        ensures { Passed (when (absent self count number) (Absent position) ∷ []) result }
     {
-        match self {
-            Use::Concept => number as usize >= count,
-            Use::Unused | Use::Name | Use::Role => false,
+        if self == Use::Concept && number as usize >= count {
+            return Err(Refusal::Absent(position as usize));
         }
+        Ok(())
     }
+}
+
+// Whether this is a role; its number has this position in its call.
+pub(crate) fn check_role(role: u16, position: u8) -> Result<(), Refusal>
+    ensures { Passed (when (nat_le 128 role) (Range position) ∷ []) result }
+{
+    Use::Role.check_range(role, position)
 }
 
 // The concept that a tag and two numbers write, where `count` concepts stand.
 pub fn read_concept(count: usize, tag: u16, a: u16, b: u16) -> Result<Concept, Refusal>
     ensures { Read count tag a b result }
 {
-    let first = use_of_first(tag);
-    let second = use_of_second(tag);
-    if tag > 7 {
-        return Err(Refusal::Range(0));
-    }
-    if first.out_of_range(a) {
-        return Err(Refusal::Range(1));
-    }
-    if second.out_of_range(b) {
-        return Err(Refusal::Range(2));
-    }
-    if first.absent(count, a) {
-        return Err(Refusal::Absent(1));
-    }
-    if second.absent(count, b) {
-        return Err(Refusal::Absent(2));
-    }
+    let tag = Tag::try_from(tag).map_err(|_| Refusal::Range(0))?;
+    let (first, second) = (tag.first(), tag.second());
+    first.check_range(a, 1)?;
+    second.check_range(b, 2)?;
+    first.check_stands(a, count, 1)?;
+    second.check_stands(b, count, 2)?;
     Ok(match tag {
-        0 => Concept::Top,
-        1 => Concept::Bottom,
-        2 => Concept::Name(a),
-        3 => Concept::NotName(a),
-        4 => Concept::And(a, b),
-        5 => Concept::Or(a, b),
-        6 => Concept::Only(a, b),
-        _ => Concept::Exists(a, b),
+        Tag::Top => Concept::Top,
+        Tag::Bottom => Concept::Bottom,
+        Tag::Name => Concept::Name(a),
+        Tag::NotName => Concept::NotName(a),
+        Tag::And => Concept::And(a, b),
+        Tag::Or => Concept::Or(a, b),
+        Tag::Only => Concept::Only(a, b),
+        Tag::Exists => Concept::Exists(a, b),
     })
 }

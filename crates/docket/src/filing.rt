@@ -3,12 +3,13 @@ ghost use Rattle.docket.specs.Dockets.{Entered};
 ghost use Rattle.docket.specs.Questions.{PairingIsRight, MeansTheSame};
 ghost use Rattle.docket.specs.Runs.{Reached};
 
-use crate::fields::read_concept;
+use crate::fields::{check_role, read_concept};
 use crate::phase::{Kind, Phase};
 use crate::{Answer, Docket};
 use book::filing::{Draft, check};
+use book::members::check_stands;
 use calculus::bank::Bank;
-use logic::role::{ROLES, RoleAxiom};
+use logic::role::RoleAxiom;
 use refusals::Refusal;
 
 // The most axioms of either list.
@@ -37,16 +38,11 @@ impl<'a> Docket<'a> {
         ensures { Acts (inclusion r s) self.old result self.new }
     {
         self.enter(Kind::RoleAxiom)?;
-        if r as usize >= ROLES {
-            return Err(Refusal::Range(0));
-        }
-        if s as usize >= ROLES {
-            return Err(Refusal::Range(1));
-        }
-        match self.vocabulary.file_role_axiom(RoleAxiom::Inclusion(r, s)) {
-            Some(number) => Ok(number),
-            None => Err(Refusal::Full(MOST_AXIOMS)),
-        }
+        check_role(r, 0)?;
+        check_role(s, 1)?;
+        self.vocabulary
+            .file_role_axiom(RoleAxiom::Inclusion(r, s))
+            .ok_or(Refusal::Full(MOST_AXIOMS))
     }
 
     // Files that role `r` is transitive.
@@ -54,13 +50,10 @@ impl<'a> Docket<'a> {
         ensures { Acts (transitivity r) self.old result self.new }
     {
         self.enter(Kind::RoleAxiom)?;
-        if r as usize >= ROLES {
-            return Err(Refusal::Range(0));
-        }
-        match self.vocabulary.file_role_axiom(RoleAxiom::Transitivity(r)) {
-            Some(number) => Ok(number),
-            None => Err(Refusal::Full(MOST_AXIOMS)),
-        }
+        check_role(r, 0)?;
+        self.vocabulary
+            .file_role_axiom(RoleAxiom::Transitivity(r))
+            .ok_or(Refusal::Full(MOST_AXIOMS))
     }
 
     // Files the concept that a tag and two numbers write.
@@ -70,10 +63,10 @@ impl<'a> Docket<'a> {
     {
         self.enter(Kind::Concept)?;
         let k = read_concept(self.vocabulary.len(), tag, a, b)?;
-        match self.vocabulary.file_concept(k) {
-            Ok(number) => Ok(number),
-            Err(_) => Err(Refusal::Full(self.vocabulary.room())),
-        }
+        let room = self.vocabulary.room();
+        self.vocabulary
+            .file_concept(k)
+            .map_err(|_| Refusal::Full(room))
     }
 
     // Pairs two concepts as mates.
@@ -82,16 +75,11 @@ impl<'a> Docket<'a> {
         ensures right { PairingIsRight self.old c d result }
     {
         self.enter(Kind::Pair)?;
-        if c as usize >= self.vocabulary.len() {
-            return Err(Refusal::Absent(0));
-        }
-        if d as usize >= self.vocabulary.len() {
-            return Err(Refusal::Absent(1));
-        }
-        if self.vocabulary.pair(c, d) {
-            Ok(0)
-        } else {
-            Err(Refusal::Unpaired)
+        check_stands(c, self.vocabulary.len(), 0)?;
+        check_stands(d, self.vocabulary.len(), 1)?;
+        match self.vocabulary.pair(c, d) {
+            Some(()) => Ok(0),
+            None => Err(Refusal::Unpaired),
         }
     }
 
@@ -100,13 +88,10 @@ impl<'a> Docket<'a> {
         ensures { Acts (general c) self.old result self.new }
     {
         self.enter(Kind::Axiom)?;
-        if c as usize >= self.vocabulary.len() {
-            return Err(Refusal::Absent(0));
-        }
-        match self.vocabulary.file_axiom(c) {
-            Some(number) => Ok(number),
-            None => Err(Refusal::Full(MOST_AXIOMS)),
-        }
+        check_stands(c, self.vocabulary.len(), 0)?;
+        self.vocabulary
+            .file_axiom(c)
+            .ok_or(Refusal::Full(MOST_AXIOMS))
     }
 
     // Ends the filing of axioms.

@@ -6,6 +6,7 @@ pub mod fields;
 pub mod filing;
 pub mod phase;
 pub mod questions;
+pub mod tag;
 
 ghost use Rattle.std.specs.Prelude.{◌≡◌};
 ghost use Rattle.docket.specs.Dockets.{Opened};

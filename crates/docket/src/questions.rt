@@ -1,36 +1,41 @@
 ghost use Rattle.std.specs.Prelude.{◌≡◌};
+ghost use Rattle.book.specs.Drafts.{Passed};
 ghost use Rattle.book.specs.Lines.{first_within};
 ghost use Rattle.file_bytes.specs.Bytes.{numbers};
 ghost use Rattle.labels.specs.Labels.{row};
 ghost use Rattle.vocabulary.specs.Mates.{mate};
 ghost use Rattle.vocabulary.specs.Roles.{is_below, is_transitive};
 ghost use Rattle.docket.specs.Dockets.{lines};
-ghost use Rattle.docket.specs.Questions.{Answered, OfValue, below_rows, transitive_rows, mate_rows, label_rows, SaysBelow, SaysTransitive, SaysMate};
+ghost use Rattle.docket.specs.Questions.{Answered, OfValue, sealed_rows, below_rows, transitive_rows, mate_rows, label_rows, SaysBelow, SaysTransitive, SaysMate};
 ghost use Rattle.docket.specs.Runs.{Reached};
 
 use crate::Docket;
+use crate::fields::check_role;
 use crate::phase::Phase;
-use book::members::{check_rising, check_standing};
+use book::members::{check_rising, check_standing, check_stands};
 use book::search::find_within;
 use labels::members::row_of;
-use logic::role::ROLES;
 use refusals::Refusal;
 
 impl<'a> Docket<'a> {
+    // Whether the docket is sealed, as the questions on roles and on conclusions ask.
+    pub(crate) fn check_sealed(&self) -> Result<(), Refusal>
+        ensures { Passed (sealed_rows self.now) result }
+    {
+        match self.phase {
+            Phase::Open => Err(Refusal::Phase),
+            Phase::Sealed => Ok(()),
+        }
+    }
+
     // Whether role `r` is below role `s`.
     pub fn is_below(&self, r: u16, s: u16) -> Result<bool, Refusal>
         ensures answered { Answered (below_rows self.now r s) (λ b. b ≡ is_below self.now.vocabulary.roles r s) result }
         ensures means { Reached self.now → OfValue (SaysBelow self.now r s) result }
     {
-        if let Phase::Open = self.phase {
-            return Err(Refusal::Phase);
-        }
-        if r as usize >= ROLES {
-            return Err(Refusal::Range(0));
-        }
-        if s as usize >= ROLES {
-            return Err(Refusal::Range(1));
-        }
+        self.check_sealed()?;
+        check_role(r, 0)?;
+        check_role(s, 1)?;
         Ok(self.vocabulary.is_below(r, s))
     }
 
@@ -39,12 +44,8 @@ impl<'a> Docket<'a> {
         ensures answered { Answered (transitive_rows self.now r) (λ b. b ≡ is_transitive self.now.vocabulary.roles r) result }
         ensures means { Reached self.now → OfValue (SaysTransitive self.now r) result }
     {
-        if let Phase::Open = self.phase {
-            return Err(Refusal::Phase);
-        }
-        if r as usize >= ROLES {
-            return Err(Refusal::Range(0));
-        }
+        self.check_sealed()?;
+        check_role(r, 0)?;
         Ok(self.vocabulary.is_transitive(r))
     }
 
@@ -53,9 +54,7 @@ impl<'a> Docket<'a> {
         ensures answered { Answered (mate_rows self.now c) (λ m. m ≡ mate self.now.vocabulary.mates c) result }
         ensures means { Reached self.now → OfValue (SaysMate self.now c) result }
     {
-        if c as usize >= self.vocabulary.len() {
-            return Err(Refusal::Absent(0));
-        }
+        check_stands(c, self.vocabulary.len(), 0)?;
         Ok(self.vocabulary.mate(c))
     }
 
