@@ -1,24 +1,25 @@
 -- From lists and rows to the meaning.
-use Rattle.std.proofs.Common.{◌≡◌, ℕ, zero, suc, ◌<◌, ◌≤◌, min, Bool, true, false, T, ◌↔◌, List, [], ◌∷◌, length, get_or, Some, None, Option, sym, refl, subst, arith}
+use Rattle.std.proofs.Common.{◌≡◌, ℕ, zero, suc, ◌*◌, ◌<◌, ◌≤◌, min, Bool, true, false, T, ◌↔◌, List, [], ◌∷◌, length, get_or, Some, None, Option, sym, refl, subst, arith}
 use mathlib.Core.List.{Memᴰ}
+use Rattle.register.specs.References.{Ordered}
 use Rattle.bits.specs.Bits.{has}
 use Rattle.rows.specs.Rows.{contains}
 use Rattle.logic.specs.declared.concept.Concept.{Concept}
 use Rattle.logic.specs.declared.role.RoleAxiom.{RoleAxiom}
 use Rattle.logic.specs.declared.role.RoleAxiom.TheVariants.{Inclusion}
-use Rattle.logic.specs.Interpretations.{Interpretation, MeetsRoleAxiom, MeetsRoleAxioms}
-use Rattle.logic.specs.Meaning.{LiesIn, HoldsOfAll}
-use Rattle.vocabulary.specs.Keeping.{AxiomsStand}
+use Rattle.logic.specs.Interpretations.{MeetsRoleAxiom, MeetsRoleAxioms}
+use Rattle.logic.specs.Concepts.{parts}
+use Rattle.logic.specs.Meaning.{LiesIn, HoldsOfAll, Meets}
+use Rattle.vocabulary.specs.declared.Vocabulary.{Vocabulary}
+use Rattle.vocabulary.specs.Vocabularies.{concepts, axioms}
+use Rattle.vocabulary.specs.Keeping.{Kept, AxiomsStand}
 use Rattle.models.specs.declared.Model.{Model}
 use Rattle.models.specs.Firsts.{First}
 use Rattle.models.specs.Models.{WellFormed, described}
 use Rattle.models.specs.Evaluation.{Evaluated, RowIsFull}
-use Rattle.models.specs.Judging.{PointLiesIn}
+use Rattle.models.specs.Judging.{LabelStands, Judgeable, PointLiesIn, AxiomMissed, PointMissed, Satisfied}
+use Rattle.models.proofs.FirstFacts.{first_map}
 use Rattle.models.proofs.PairFacts.{element, in_range}
-
-pub first_map : (P Q : ℕ → Type 0) (n : ℕ) (o : Option ℕ) → ((k : ℕ) → k < n → P k ↔ Q k) → First P n o → First Q n o
-first_map P Q n None f h = λ k l. (f k l).0 (h k l)
-first_map P Q n (Some i) f h = (h.0, (λ q. h.1 ((f i h.0).1 q)), λ k l. (f k (let z = h.0 in omega arith)).0 (h.2 k l))
 
 -- members of a list by their places
 pub every_member : {A : Type 0} (P : A → Type 0) (d : A) (xs : List A) → ((k : ℕ) → k < length xs → P (get_or xs k d)) → (a : A) → Memᴰ a xs → P a
@@ -35,9 +36,6 @@ member_at d (x ∷ xs) (suc k) h = Memᴰ.tail (member_at d xs k (omega arith))
 pub failed_member : (b : Bool) (X : Type 0) → ((b ≡ true → X) → ⊥) → b ≡ true
 failed_member true X f = refl
 failed_member false X f = absurd (f (λ e. absurd (subst (λ b. T b) (sym e) tt)))
-
-pub role_axioms_met : (I : Interpretation) (roles : List RoleAxiom) → First (λ k. MeetsRoleAxiom I (get_or roles k (Inclusion 0 0))) (length roles) None → MeetsRoleAxioms I roles
-role_axioms_met I roles = every_member (MeetsRoleAxiom I) (Inclusion 0 0) roles
 
 module _ (m : Model) (formed : WellFormed m) (cs : List Concept) (old new : List ℕ) (evaluated : Evaluated (described m) cs old new) where
   -- a row's element and the meaning
@@ -57,11 +55,49 @@ module _ (m : Model) (formed : WellFormed m) (cs : List Concept) (old new : List
       First (λ k. HoldsOfAll (described m) cs (get_or listed k 0)) (length listed) o
   axioms_first listed o stand = first_map _ _ (length listed) o (λ k l. full_holds (get_or listed k 0) (stand _ (member_at 0 listed k l)))
 
-  pub axioms_met : (listed : List ℕ) → First (λ k. HoldsOfAll (described m) cs (get_or listed k 0)) (length listed) None → (c : ℕ) → Memᴰ c listed → HoldsOfAll (described m) cs c
-  axioms_met listed = every_member (HoldsOfAll (described m) cs) 0 listed
-
   pub point_first : (label : List ℕ) (p : ℕ) (o : Option ℕ) → p < m.size → length cs ≤ 1024 → First (λ c. has label c ≡ true → T (contains new c p)) (min (length cs) 1024) o →
       First (PointLiesIn (described m) cs label p) (length cs) o
   point_first label p o h few f =
       first_map _ _ (length cs) o (λ c l. ((λ t i. (contains_lies c p l h).0 (t i)), λ t i. (contains_lies c p l h).1 (t i)))
       (subst (λ n. First (λ c. has label c ≡ true → T (contains new c p)) n o) (let e : min (length cs) 1024 ≡ length cs = omega arith in e) f)
+
+pub judgeable : (v : Vocabulary) (label old : List ℕ) → Kept v → 4 * length (concepts v) ≤ length old → LabelStands (concepts v) label → Judgeable (concepts v) (axioms v) label old
+judgeable v label old kept room stand = record { ordered = kept.concepts_kept.ordered; few = kept.concepts_kept.few; axioms_stand = kept.axioms_stand; label_stands = stand; room = room }
+
+-- What the search for a missed axiom and for a missed concept of the label says, once the rows are evaluated.
+module _ (m : Model) (formed : WellFormed m) (roles : List RoleAxiom) (cs : List Concept) (listed label old new : List ℕ) (j : Judgeable cs listed label old)
+    (unbroken : First (λ k. MeetsRoleAxiom (described m) (get_or roles k (Inclusion 0 0))) (length roles) None) (ordered : Ordered parts cs → Evaluated (described m) cs old new) where
+  evaluated : Evaluated (described m) cs old new
+  evaluated = ordered j.ordered
+
+  meets_roles : MeetsRoleAxioms (described m) roles
+  meets_roles = every_member (MeetsRoleAxiom (described m)) (Inclusion 0 0) roles unbroken
+
+  abbrev FirstMissed : Option ℕ → Type 0
+  FirstMissed o = First (λ k. (get_or listed k 0 < length cs) × RowIsFull new m.size (get_or listed k 0)) (length listed) o
+
+  abbrev LeastMissed : Option ℕ → Type 0
+  LeastMissed o = First (λ c. has label c ≡ true → T (contains new c m.point)) (min (length cs) 1024) o
+
+  holds : (o : Option ℕ) → FirstMissed o → First (λ k. HoldsOfAll (described m) cs (get_or listed k 0)) (length listed) o
+  holds o = axioms_first m formed cs old new evaluated listed o j.axioms_stand
+
+  meets : FirstMissed None → Meets (described m) roles cs listed
+  meets f = record { meets_roles = meets_roles; meets_axioms = every_member (HoldsOfAll (described m) cs) 0 listed (holds None f) }
+
+  lies : (o : Option ℕ) → LeastMissed o → First (PointLiesIn (described m) cs label m.point) (length cs) o
+  lies o = point_first m formed cs old new evaluated label m.point o formed.sized.pointed j.few
+
+  pub axiom_missed : (i : ℕ) → FirstMissed (Some i) → AxiomMissed roles cs listed label m old new i
+  axiom_missed i f = record { formed = formed; meets_roles = meets_roles; first_missed = holds (Some i) f; evaluated = evaluated }
+
+  pub point_missed : (c : ℕ) → FirstMissed None → LeastMissed (Some c) → PointMissed roles cs listed label m old new c
+  point_missed c f l = let first = lies (Some c) l in record { formed = formed; meets = meets f; member = failed_member _ _ first.1; least_missed = first; evaluated = evaluated }
+
+  pub satisfied : FirstMissed None → LeastMissed None → Satisfied roles cs listed label m old new
+  satisfied f l = record { formed = formed; meets = meets f; point_lies = λ k i. lies None l k (j.label_stands k i) i; evaluated = evaluated }
+
+-- what is judged by lists and by a model is so by others that are the same
+pub carried : (J : List RoleAxiom → List Concept → List ℕ → Model → Type 0) (roles roles' : List RoleAxiom) (cs cs' : List Concept) (listed listed' : List ℕ) (m m' : Model) →
+    roles' ≡ roles → cs' ≡ cs → listed' ≡ listed → m' ≡ m → J roles' cs' listed' m' → J roles cs listed m
+carried J roles roles' cs cs' listed listed' m m' p q r s x = subst (λ z. J z cs listed m) p (subst (λ z. J roles' z listed m) q (subst (λ z. J roles' cs' z m) r (subst (J roles' cs' listed') s x)))

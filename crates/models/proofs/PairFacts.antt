@@ -1,10 +1,15 @@
 -- A role axiom is met exactly if every edge has what it asks.
-use Rattle.std.proofs.Common.{◌≡◌, ℕ, ◌/◌, ◌%◌, ◌<◌, Bool, true, false, cond, T, eqb, ◌↔◌, List, sym, refl, ◌∙◌, subst, arith}
+use Rattle.std.proofs.Common.{◌≡◌, ℕ, ◌+◌, ◌-◌, ◌/◌, ◌%◌, ◌<◌, Bool, true, false, cond, T, eqb, ◌↔◌, List, [], length, sym, refl, ap, ◌∙◌, subst, arith}
+use Rattle.std.specs.Bool.{MatchBool}
+use Rattle.std.specs.List.{AllWithin, HoldsAt}
 use Rattle.logic.specs.Interpretations.{Element, Leads, Includes, IsTransitive}
 use Rattle.models.specs.declared.Model.{Model}
-use Rattle.models.specs.Items.{edges_in, edge_role, edge_from, edge_to, edge_source, edge_target, joined}
+use Rattle.models.specs.declared.items.Edge.{Edge}
+use Rattle.models.specs.Items.{edges_in, edge_role, edge_from, edge_to, edge_source, edge_target, edge_at, edge_chunks, joined}
 use Rattle.models.specs.Models.{WellFormed, described}
-use Rattle.models.specs.Pairs.{PairIncluded, Shortened}
+use Rattle.models.specs.Pairs.{PairIncluded, Shortcut, Shortened}
+use Rattle.models.specs.Searching.{LeaveFrom}
+use Rattle.models.proofs.ChunkFacts.{length_chunks, edge_there}
 use Rattle.models.proofs.EdgeFacts.{joined_out, joined_in}
 
 -- edge i is a pair of role r that leads from x to y
@@ -13,6 +18,22 @@ pub record IsPair (es : List ℕ) (i r x y : ℕ) : Type 0 where
   pub role_is : edge_role es i ≡ r / 2
   pub source_is : edge_source es r i ≡ x
   pub target_is : edge_target es r i ≡ y
+
+-- what a test of every chunk says of the edges
+pub all_edges : (P : Edge → Type 0) (es : List ℕ) (chunks : List (List ℕ)) → chunks ≡ edge_chunks es → (r : Bool) →
+    MatchBool r (AllWithin (λ c. P (edge_at c 0)) chunks 0 (length chunks)) ((k : ℕ) × (k < length chunks) × HoldsAt (λ c. P (edge_at c 0) → ⊥) chunks k) →
+    T r ↔ ((k : ℕ) → k < edges_in es → P (edge_at es k))
+all_edges P es chunks cut true h = (
+  (λ _ k l. subst P (edge_there es chunks cut k [] l) (h k [] (omega arith) (omega (arith, ap (λ c. length c) cut, length_chunks 6 (edges_in es) es)))),
+  λ _. tt,
+)
+all_edges P es chunks cut false h = (
+  (λ t. absurd t),
+  λ f.
+      let l = h.1 in
+      let k : h.0 < edges_in es = omega (arith, ap (λ c. length c) cut, length_chunks 6 (edges_in es) es) in
+      h.2 [] (subst P (sym (edge_there es chunks cut h.0 [] k)) (f h.0 k)),
+)
 
 -- the elements of a model are the numbers below its size
 pub element : (m : Model) (x : ℕ) → x < m.size → Element (described m) x
@@ -65,7 +86,7 @@ module _ (m : Model) where
         go true = (formed.good_edges i k).to_in_range
         go false = (formed.good_edges i k).from_in_range
 
-    pub pairs_included : (r s : ℕ) → ((k : ℕ) → k < edges_in es → PairIncluded m r s k) ↔ Includes (described m) r s
+    pub pairs_included : (r s : ℕ) → ((k : ℕ) → k < edges_in es → PairIncluded m r s (edge_at es k)) ↔ Includes (described m) r s
     pairs_included r s = (
       (λ f x y hx hy t.
           let (i, p) = leads_out r x y t in
@@ -99,19 +120,35 @@ module _ (m : Model) where
         go hx hy hz true g = g x y z (element m x hx) (element m y hy) (element m z hz) u v
         go hx hy hz false g = g z y x (element m z hz) (element m y hy) (element m x hx) v u
 
-    pub pairs_shortened : (r : ℕ) → ((k : ℕ) → k < edges_in es → Shortened m (r / 2) k) ↔ IsTransitive (described m) r
+    pub pairs_shortened : (r : ℕ) → ((k : ℕ) → k < edges_in es → Shortened m (r / 2) (edge_at es k)) ↔ IsTransitive (described m) r
     unfolding Chained
     pairs_shortened r = ((λ f. name_transitive r (chained f)), λ f. shortened (transitive_name r f))
       where
-        chained : ((k : ℕ) → k < edges_in es → Shortened m (r / 2) k) → Chained r
+        chained : ((k : ℕ) → k < edges_in es → Shortened m (r / 2) (edge_at es k)) → Chained r
         chained f x y z u v =
             let (i, p) = joined_out es (r / 2) x y u in
             let (j, q) = joined_out es (r / 2) y z v in
             let (k, e) = joined_out es _ _ _ (f i p.listed p.role_is j q.listed (q.role_is ∙ sym p.role_is) (q.from_is ∙ sym p.to_is)) in
             joined_in es k (r / 2) x z (record { listed = e.listed; role_is = e.role_is ∙ p.role_is; from_is = e.from_is ∙ p.from_is; to_is = e.to_is ∙ q.to_is })
 
-        shortened : Chained r → (k : ℕ) → k < edges_in es → Shortened m (r / 2) k
+        shortened : Chained r → (k : ℕ) → k < edges_in es → Shortened m (r / 2) (edge_at es k)
         shortened f i k e j l same next =
             subst (λ a. T (joined es a (edge_from es i) (edge_to es j))) (sym e) (f (edge_from es i) (edge_to es i) (edge_to es j)
             (joined_in es i (r / 2) _ _ (record { listed = k; role_is = e; from_is = refl; to_is = refl }))
             (joined_in es j (r / 2) _ _ (record { listed = l; role_is = same ∙ e; from_is = next; to_is = refl })))
+
+-- what a test of the chunks of the edges that lead from its end says of an edge
+pub all_leaving : (m : Model) (a : ℕ) (e : Edge) (chunks : List (List ℕ)) → LeaveFrom m.edges.now a e.to chunks → (r : Bool) →
+    MatchBool r (AllWithin (λ c. Shortcut m e (edge_at c 0)) chunks 0 (length chunks)) ((k : ℕ) × (k < length chunks) × HoldsAt (λ c. Shortcut m e (edge_at c 0) → ⊥) chunks k) →
+    e.role_name ≡ a → T r ↔ Shortened m a e
+all_leaving m a e chunks leave true h same = (
+  (λ _ _ j l q f.
+      let k = leave.complete j l (q ∙ same) f in
+      let p : leave.start + (j - leave.start) ≡ j = omega arith in
+      subst (Shortcut m e) (leave.listed (j - leave.start) [] (omega arith) ∙ ap (λ i. edge_at m.edges.now i) p) (h (j - leave.start) [] (omega arith) (omega arith)) q f),
+  λ _. tt,
+)
+all_leaving m a e chunks leave false h same = (
+  (λ t. absurd t),
+  λ f. let l = h.1 in let w = leave.within in h.2 [] (subst (Shortcut m e) (sym (leave.listed h.0 [] h.1)) (f same (leave.start + h.0) (omega arith))),
+)
