@@ -22,15 +22,17 @@ pub first_place : {X : Type 0} (P : X → Type 0) (d : X) (xs : List X) (o : Opt
 first_place P d xs None h = λ k l. h k d (omega arith) l
 first_place P d xs (Some i) h = (h.0, h.1 d, λ k l. h.2 k d (omega arith) l)
 
--- by `all` over the numbers from 0 up
-number : (n k : ℕ) → k < n → get_or (range_with_len 0 n) k 0 ≡ k
-number n k l = get_or-range_with_len 0 n k 0 l ∙ omega arith
+-- By `all` over a list, of whose elements v reads a value: the one at k is at k.
+pub all_read : {X Y : Type 0} (P : Y → Type 0) (v : X → Y) (at : ℕ → Y) (d : X) (xs : List X) (n : ℕ) → length xs ≡ n → ((k : ℕ) → k < n → v (get_or xs k d) ≡ at k) →
+    (Q : Type 0) → ((k : ℕ) → k < n → P (at k)) ↔ Q → (r : Bool) → MatchBool r (AllWithin (λ x. P (v x)) xs 0 (length xs)) ((k : ℕ) × (k < length xs) × HoldsAt (λ x. P (v x) → ⊥) xs k) → T r ↔ Q
+all_read P v at d xs n e same Q q true h = ((λ _. q.0 (λ k l. subst P (same k l) (h k d (omega arith) (omega arith)))), λ _. tt)
+all_read P v at d xs n e same Q q false h = (
+  (λ t. absurd t),
+  λ f. let l = h.1 in let k : h.0 < n = omega arith in h.2 d (subst P (sym (same h.0 k)) (q.1 f h.0 k)),
+)
 
+-- and over the numbers from 0 up
 pub all_numbers : (P : ℕ → Type 0) (n : ℕ) (r : Bool) →
     MatchBool r (AllWithin P (range_with_len 0 n) 0 (length (range_with_len 0 n))) ((k : ℕ) × (k < length (range_with_len 0 n)) × HoldsAt (λ x. P x → ⊥) (range_with_len 0 n) k) →
     T r ↔ ((k : ℕ) → k < n → P k)
-all_numbers P n true h = ((λ _ k l. subst P (number n k l) (h k 0 (omega arith) (omega (arith, length-range_with_len 0 n)))), λ _. tt)
-all_numbers P n false h = (
-  (λ t. absurd t),
-  λ f. let l = h.1 in let k : h.0 < n = omega (arith, length-range_with_len 0 n) in h.2 0 (subst P (sym (number n h.0 k)) (f h.0 k)),
-)
+all_numbers P n = all_read P (λ x. x) (λ k. k) 0 (range_with_len 0 n) n (length-range_with_len 0 n) (λ k l. get_or-range_with_len 0 n k 0 l ∙ omega arith) _ ((λ f. f), λ f. f)

@@ -11,6 +11,7 @@ use Rattle.logic.specs.Interpretations.{MeetsRoleAxiom, MeetsRoleAxioms}
 use Rattle.logic.specs.Concepts.{parts}
 use Rattle.logic.specs.Meaning.{LiesIn, HoldsOfAll, Meets}
 use Rattle.vocabulary.specs.declared.Vocabulary.{Vocabulary}
+use Rattle.vocabulary.specs.Roles.{role_axioms}
 use Rattle.vocabulary.specs.Vocabularies.{concepts, axioms}
 use Rattle.vocabulary.specs.Keeping.{Kept, AxiomsStand}
 use Rattle.models.specs.declared.Model.{Model}
@@ -61,9 +62,6 @@ module _ (m : Model) (formed : WellFormed m) (cs : List Concept) (old new : List
       first_map _ _ (length cs) o (λ c l. ((λ t i. (contains_lies c p l h).0 (t i)), λ t i. (contains_lies c p l h).1 (t i)))
       (subst (λ n. First (λ c. has label c ≡ true → T (contains new c p)) n o) (let e : min (length cs) 1024 ≡ length cs = omega arith in e) f)
 
-pub judgeable : (v : Vocabulary) (label old : List ℕ) → Kept v → 4 * length (concepts v) ≤ length old → LabelStands (concepts v) label → Judgeable (concepts v) (axioms v) label old
-judgeable v label old kept room stand = record { ordered = kept.concepts_kept.ordered; few = kept.concepts_kept.few; axioms_stand = kept.axioms_stand; label_stands = stand; room = room }
-
 -- What the search for a missed axiom and for a missed concept of the label says, once the rows are evaluated.
 module _ (m : Model) (formed : WellFormed m) (roles : List RoleAxiom) (cs : List Concept) (listed label old new : List ℕ) (j : Judgeable cs listed label old)
     (unbroken : First (λ k. MeetsRoleAxiom (described m) (get_or roles k (Inclusion 0 0))) (length roles) None) (ordered : Ordered parts cs → Evaluated (described m) cs old new) where
@@ -97,7 +95,11 @@ module _ (m : Model) (formed : WellFormed m) (roles : List RoleAxiom) (cs : List
   pub satisfied : FirstMissed None → LeastMissed None → Satisfied roles cs listed label m old new
   satisfied f l = record { formed = formed; meets = meets f; point_lies = λ k i. lies None l k (j.label_stands k i) i; evaluated = evaluated }
 
--- what is judged by lists and by a model is so by others that are the same
-pub carried : (J : List RoleAxiom → List Concept → List ℕ → Model → Type 0) (roles roles' : List RoleAxiom) (cs cs' : List Concept) (listed listed' : List ℕ) (m m' : Model) →
-    roles' ≡ roles → cs' ≡ cs → listed' ≡ listed → m' ≡ m → J roles' cs' listed' m' → J roles cs listed m
-carried J roles roles' cs cs' listed listed' m m' p q r s x = subst (λ z. J z cs listed m) p (subst (λ z. J roles' z listed m) q (subst (λ z. J roles' cs' z m) r (subst (J roles' cs' listed') s x)))
+-- what a judgement by lists and a model says, where they are a vocabulary's and another's
+pub judged_by : (v : Vocabulary) (label old : List ℕ) (m m' : Model) (roles : List RoleAxiom) (cs : List Concept) (listed : List ℕ) (J : List RoleAxiom → List Concept → List ℕ → Model → Type 0) →
+    roles ≡ role_axioms v.roles → cs ≡ concepts v → listed ≡ axioms v → m' ≡ m → (Judgeable cs listed label old → J roles cs listed m') →
+    Kept v → 4 * length (concepts v) ≤ length old → LabelStands (concepts v) label → J (role_axioms v.roles) (concepts v) (axioms v) m
+judged_by v label old m m' roles cs listed J p q r s judge kept room stand =
+    subst (λ z. J z (concepts v) (axioms v) m) p (subst (λ z. Judgeable z (axioms v) label old → J roles z (axioms v) m) q
+    (subst (λ z. Judgeable cs z label old → J roles cs z m) r (subst (λ z. Judgeable cs listed label old → J roles cs listed z) s judge))
+    (record { ordered = kept.concepts_kept.ordered; few = kept.concepts_kept.few; axioms_stand = kept.axioms_stand; label_stands = stand; room = room }))

@@ -1,15 +1,12 @@
 -- A role axiom is met exactly if every edge has what it asks.
-use Rattle.std.proofs.Common.{◌≡◌, ℕ, ◌+◌, ◌-◌, ◌/◌, ◌%◌, ◌<◌, Bool, true, false, cond, T, eqb, ◌↔◌, List, [], length, sym, refl, ap, ◌∙◌, subst, arith}
-use Rattle.std.specs.Bool.{MatchBool}
-use Rattle.std.specs.List.{AllWithin, HoldsAt}
+use Rattle.std.proofs.Common.{◌≡◌, ℕ, ◌+◌, ◌-◌, ◌/◌, ◌%◌, ◌<◌, Bool, true, false, cond, T, eqb, ◌↔◌, List, length, sym, refl, ◌∙◌, subst, arith}
 use Rattle.logic.specs.Interpretations.{Element, Leads, Includes, IsTransitive}
 use Rattle.models.specs.declared.Model.{Model}
 use Rattle.models.specs.declared.items.Edge.{Edge}
-use Rattle.models.specs.Items.{edges_in, edge_role, edge_from, edge_to, edge_source, edge_target, edge_at, edge_chunks, joined}
+use Rattle.models.specs.Items.{edges_in, edge_role, edge_from, edge_to, edge_source, edge_target, edge_at, joined}
 use Rattle.models.specs.Models.{WellFormed, described}
 use Rattle.models.specs.Pairs.{PairIncluded, Shortcut, Shortened}
 use Rattle.models.specs.Searching.{LeaveFrom}
-use Rattle.models.proofs.ChunkFacts.{length_chunks, edge_there}
 use Rattle.models.proofs.EdgeFacts.{joined_out, joined_in}
 
 -- edge i is a pair of role r that leads from x to y
@@ -18,22 +15,6 @@ pub record IsPair (es : List ℕ) (i r x y : ℕ) : Type 0 where
   pub role_is : edge_role es i ≡ r / 2
   pub source_is : edge_source es r i ≡ x
   pub target_is : edge_target es r i ≡ y
-
--- what a test of every chunk says of the edges
-pub all_edges : (P : Edge → Type 0) (es : List ℕ) (chunks : List (List ℕ)) → chunks ≡ edge_chunks es → (r : Bool) →
-    MatchBool r (AllWithin (λ c. P (edge_at c 0)) chunks 0 (length chunks)) ((k : ℕ) × (k < length chunks) × HoldsAt (λ c. P (edge_at c 0) → ⊥) chunks k) →
-    T r ↔ ((k : ℕ) → k < edges_in es → P (edge_at es k))
-all_edges P es chunks cut true h = (
-  (λ _ k l. subst P (edge_there es chunks cut k [] l) (h k [] (omega arith) (omega (arith, ap (λ c. length c) cut, length_chunks 6 (edges_in es) es)))),
-  λ _. tt,
-)
-all_edges P es chunks cut false h = (
-  (λ t. absurd t),
-  λ f.
-      let l = h.1 in
-      let k : h.0 < edges_in es = omega (arith, ap (λ c. length c) cut, length_chunks 6 (edges_in es) es) in
-      h.2 [] (subst P (sym (edge_there es chunks cut h.0 [] k)) (f h.0 k)),
-)
 
 -- the elements of a model are the numbers below its size
 pub element : (m : Model) (x : ℕ) → x < m.size → Element (described m) x
@@ -137,18 +118,13 @@ module _ (m : Model) where
             (joined_in es i (r / 2) _ _ (record { listed = k; role_is = e; from_is = refl; to_is = refl }))
             (joined_in es j (r / 2) _ _ (record { listed = l; role_is = same ∙ e; from_is = next; to_is = refl })))
 
--- what a test of the chunks of the edges that lead from its end says of an edge
-pub all_leaving : (m : Model) (a : ℕ) (e : Edge) (chunks : List (List ℕ)) → LeaveFrom m.edges.now a e.to chunks → (r : Bool) →
-    MatchBool r (AllWithin (λ c. Shortcut m e (edge_at c 0)) chunks 0 (length chunks)) ((k : ℕ) × (k < length chunks) × HoldsAt (λ c. Shortcut m e (edge_at c 0) → ⊥) chunks k) →
-    e.role_name ≡ a → T r ↔ Shortened m a e
-all_leaving m a e chunks leave true h same = (
-  (λ _ _ j l q f.
-      let k = leave.complete j l (q ∙ same) f in
+-- an edge has its shortcuts with the edges that lead from its end, and so with all
+pub shortened : (m : Model) (a : ℕ) (e : Edge) (chunks : List (List ℕ)) (leave : LeaveFrom m.edges.now a e.to chunks) → e.role_name ≡ a →
+    ((k : ℕ) → k < length chunks → Shortcut m e (edge_at m.edges.now (leave.start + k))) ↔ Shortened m a e
+shortened m a e chunks leave same = (
+  (λ f _ j l q g.
+      let k = leave.complete j l (q ∙ same) g in
       let p : leave.start + (j - leave.start) ≡ j = omega arith in
-      subst (Shortcut m e) (leave.listed (j - leave.start) [] (omega arith) ∙ ap (λ i. edge_at m.edges.now i) p) (h (j - leave.start) [] (omega arith) (omega arith)) q f),
-  λ _. tt,
-)
-all_leaving m a e chunks leave false h same = (
-  (λ t. absurd t),
-  λ f. let l = h.1 in let w = leave.within in h.2 [] (subst (Shortcut m e) (sym (leave.listed h.0 [] h.1)) (f same (leave.start + h.0) (omega arith))),
+      subst (λ i. Shortcut m e (edge_at m.edges.now i)) p (f (j - leave.start) (omega arith)) q g),
+  λ f k l. let w = leave.within in f same (leave.start + k) (omega arith),
 )

@@ -1,6 +1,5 @@
 -- The marks and the edges of a model, as they stand in bytes: a mark has two fields, an edge three.
-use Rattle.std.specs.Prelude.{◌≡◌, ℕ, zero, suc, ◌+◌, ◌-◌, ◌*◌, ◌/◌, ◌%◌, ◌<◌, Bool, false, cond, ◌&&◌, ◌||◌, ◌⊎◌, List, length, ◌==◌}
-use Rattle.std.specs.Simd.{first_chunks}
+use Rattle.std.specs.Prelude.{◌≡◌, ℕ, zero, suc, ◌+◌, ◌-◌, ◌*◌, ◌/◌, ◌%◌, ◌<◌, Bool, false, cond, ◌&&◌, ◌||◌, ◌⊎◌, List, length, ◌==◌, slice_index_or}
 use Rattle.file_bytes.specs.Bytes.{field}
 use Rattle.models.specs.declared.items.Mark.{Mark}
 use Rattle.models.specs.declared.items.Edge.{Edge}
@@ -29,18 +28,21 @@ edge_from es i = field es (3 * i + 1)
 abbrev pub edge_to : List ℕ → ℕ → ℕ
 edge_to es i = field es (3 * i + 2)
 
+-- mark i and edge i as values
 abbrev pub mark_at : List ℕ → ℕ → Mark
 mark_at ms i = record { element = mark_element ms i; name = mark_name ms i }
 
 abbrev pub edge_at : List ℕ → ℕ → Edge
 edge_at es i = record { role_name = edge_role es i; from = edge_from es i; to = edge_to es i }
 
--- the bytes of each mark and of each edge
-abbrev pub mark_chunks : List ℕ → List (List ℕ)
-mark_chunks ms = first_chunks 4 (marks_in ms) ms
+-- the chunks are the bytes of the marks, and of the edges, each by itself
+pub record AreMarks (ms : List ℕ) (chunks : List (List ℕ)) : Type 0 where
+  pub many : length chunks ≡ marks_in ms
+  pub reads : (k : ℕ) (d : List ℕ) → k < marks_in ms → mark_at (slice_index_or chunks k d) 0 ≡ mark_at ms k
 
-abbrev pub edge_chunks : List ℕ → List (List ℕ)
-edge_chunks es = first_chunks 6 (edges_in es) es
+pub record AreEdges (es : List ℕ) (chunks : List (List ℕ)) : Type 0 where
+  pub many : length chunks ≡ edges_in es
+  pub reads : (k : ℕ) (d : List ℕ) → k < edges_in es → edge_at (slice_index_or chunks k d) 0 ≡ edge_at es k
 
 -- the lexicographic order of pairs and of triples
 abbrev pub PairBefore : ℕ → ℕ → ℕ → ℕ → Type 0

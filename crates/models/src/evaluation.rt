@@ -28,8 +28,7 @@ impl Formed<'_> {
         ensures { RowBecomes rows.old rows.new c (λ e. marked self.now.model.now.marks.now name e) }
     {
         clear(rows, c);
-        let marks = self.marks();
-        for bytes in marks {
+        for bytes in self.model.mark_chunks() {
             let mark = Mark::from(*bytes);
             if mark.name == name {
                 insert(rows, c, mark.element as usize);
@@ -44,8 +43,7 @@ impl Formed<'_> {
         ensures { RowBecomes rows.old rows.new c (λ e. reaches self.now.model.now.edges.now role (λ y. turned outside (contains rows.old b y)) e) }
     {
         clear(rows, c);
-        let edges = self.edges();
-        for bytes in edges {
+        for bytes in self.model.edge_chunks() {
             let edge = Edge::from(*bytes);
             if is_hit(rows, edge, role, b, outside) {
                 insert(rows, c, edge.source(role) as usize);

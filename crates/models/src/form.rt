@@ -1,10 +1,9 @@
-ghost use Rattle.std.specs.Prelude.{◌≡◌, ◌<◌, T, ◌↔◌, length, MatchResult};
-ghost use Rattle.models.specs.Items.{marks_in, edges_in, mark_at, edge_at, mark_chunks, edge_chunks, GoodMark, GoodEdge};
+ghost use Rattle.std.specs.Prelude.{◌≡◌, ◌<◌, T, ◌↔◌, MatchResult};
+ghost use Rattle.models.specs.Items.{marks_in, edges_in, GoodMark, GoodEdge};
 ghost use Rattle.models.specs.Models.{Sized, FirstBadMark, FirstBadEdge, WellFormed, FirstFlaw};
 ghost use Rattle.models.specs.FormProps.{WellFormed-prop};
 
 use crate::Model;
-use crate::items::{Edge, Mark};
 
 // A model that is well formed.
 #[derive(Clone, Copy)]
@@ -29,40 +28,6 @@ impl<'m> Formed<'m> {
         }
         Ok(Formed { model })
     }
-
-    // Its marks, each as its bytes.
-    pub(crate) fn marks(&self) -> &'m [[u8; 4]]
-        ensures value { result.now ≡ mark_chunks self.now.model.now.marks.now }
-        ensures len { length result.now ≡ marks_in self.now.model.now.marks.now }
-    {
-        marks(self.model)
-    }
-
-    // Its edges, each as its bytes.
-    pub(crate) fn edges(&self) -> &'m [[u8; 6]]
-        ensures value { result.now ≡ edge_chunks self.now.model.now.edges.now }
-        ensures len { length result.now ≡ edges_in self.now.model.now.edges.now }
-    {
-        edges(self.model)
-    }
-}
-
-// The marks of a model, each as its bytes.
-fn marks<'m>(model: &'m Model) -> &'m [[u8; 4]]
-    ensures value { result.now ≡ mark_chunks model.now.marks.now }
-    ensures len { length result.now ≡ marks_in model.now.marks.now }
-{
-    let (marks, _) = model.marks.as_chunks();
-    marks
-}
-
-// The edges of a model, each as its bytes.
-fn edges<'m>(model: &'m Model) -> &'m [[u8; 6]]
-    ensures value { result.now ≡ edge_chunks model.now.edges.now }
-    ensures len { length result.now ≡ edges_in model.now.edges.now }
-{
-    let (edges, _) = model.edges.as_chunks();
-    edges
 }
 
 // Whether the numbers, the counts and the lengths are right.
@@ -80,36 +45,20 @@ fn is_sized(model: &Model) -> bool
         && edges.len() / 6 <= 4096
 }
 
-// Mark `i`.
-fn mark(model: &Model, i: usize) -> Mark
-    requires { i < marks_in model.now.marks.now }
-    ensures { result ≡ mark_at model.now.marks.now i }
-{
-    Mark::from(marks(model)[i])
-}
-
-// Edge `i`.
-fn edge(model: &Model, i: usize) -> Edge
-    requires { i < edges_in model.now.edges.now }
-    ensures { result ≡ edge_at model.now.edges.now i }
-{
-    Edge::from(edges(model)[i])
-}
-
 // Whether mark `i` is in range, and above the one before.
 fn is_good_mark(model: &Model, i: usize) -> bool
     requires { i < marks_in model.now.marks.now }
     ensures { T result ↔ GoodMark model.now.marks.now model.now.size i }
 {
-    let mark_i = mark(model, i);
-    mark_i.element < model.size && mark_i.name < 1024 && (i == 0 || mark(model, i - 1) < mark_i)
+    let mark = model.mark(i);
+    mark.element < model.size && mark.name < 1024 && (i == 0 || model.mark(i - 1) < mark)
 }
 
 // The first bad mark.
 fn first_bad_mark(model: &Model) -> Option<usize>
     ensures { FirstBadMark model.now result }
 {
-    (0..marks(model).len()).find(|i| !is_good_mark(model, *i))
+    (0..model.mark_chunks().len()).find(|i| !is_good_mark(model, *i))
 }
 
 // Whether edge `i` is in range, and above the one before.
@@ -117,16 +66,16 @@ fn is_good_edge(model: &Model, i: usize) -> bool
     requires { i < edges_in model.now.edges.now }
     ensures { T result ↔ GoodEdge model.now.edges.now model.now.size i }
 {
-    let edge_i = edge(model, i);
-    edge_i.role_name < 64
-        && edge_i.from < model.size
-        && edge_i.to < model.size
-        && (i == 0 || edge(model, i - 1) < edge_i)
+    let edge = model.edge(i);
+    edge.role_name < 64
+        && edge.from < model.size
+        && edge.to < model.size
+        && (i == 0 || model.edge(i - 1) < edge)
 }
 
 // The first bad edge.
 fn first_bad_edge(model: &Model) -> Option<usize>
     ensures { FirstBadEdge model.now result }
 {
-    (0..edges(model).len()).find(|i| !is_good_edge(model, *i))
+    (0..model.edge_chunks().len()).find(|i| !is_good_edge(model, *i))
 }

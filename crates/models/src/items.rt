@@ -1,6 +1,7 @@
-ghost use Rattle.std.specs.Prelude.{◌≡◌};
-ghost use Rattle.models.specs.Items.{mark_at, edge_at, source, target};
+ghost use Rattle.std.specs.Prelude.{◌≡◌, ◌<◌};
+ghost use Rattle.models.specs.Items.{marks_in, edges_in, mark_at, edge_at, source, target, AreMarks, AreEdges};
 
+use crate::Model;
 use file_bytes::field;
 
 // That an element is in a name. Marks rise in the derived order.
@@ -54,5 +55,37 @@ impl Edge {
         ensures { result ≡ target role self }
     {
         if role % 2 == 0 { self.to } else { self.from }
+    }
+}
+
+impl<'f> Model<'f> {
+    // Its marks, each as its bytes.
+    pub(crate) fn mark_chunks(&self) -> &'f [[u8; 4]]
+        ensures { AreMarks self.now.marks.now result.now }
+    {
+        self.marks.as_chunks().0
+    }
+
+    // Its edges, each as its bytes.
+    pub(crate) fn edge_chunks(&self) -> &'f [[u8; 6]]
+        ensures { AreEdges self.now.edges.now result.now }
+    {
+        self.edges.as_chunks().0
+    }
+
+    // Mark `i`.
+    pub(crate) fn mark(&self, i: usize) -> Mark
+        requires { i < marks_in self.now.marks.now }
+        ensures { result ≡ mark_at self.now.marks.now i }
+    {
+        Mark::from(self.mark_chunks()[i])
+    }
+
+    // Edge `i`.
+    pub(crate) fn edge(&self, i: usize) -> Edge
+        requires { i < edges_in self.now.edges.now }
+        ensures { result ≡ edge_at self.now.edges.now i }
+    {
+        Edge::from(self.edge_chunks()[i])
     }
 }

@@ -14,8 +14,16 @@ impl Formed<'_> {
     fn leads(&self, role: u16, from: u16, to: u16) -> bool
         ensures { result ≡ leads (described self.now.model.now) role from to }
     {
-        let (from, to) = if role % 2 == 0 { (from, to) } else { (to, from) };
-        self.has_edge(Edge { role_name: role / 2, from, to })
+        let (from, to) = if role % 2 == 0 {
+            (from, to)
+        } else {
+            (to, from)
+        };
+        self.has_edge(Edge {
+            role_name: role / 2,
+            from,
+            to,
+        })
     }
 
     // Whether an edge, if it is a pair of role `r`, is a pair of role `s`.
@@ -29,9 +37,10 @@ impl Formed<'_> {
     fn is_included(&self, r: u16, s: u16) -> bool
         ensures { T result ↔ Includes (described self.now.model.now) r s }
     {
-        self.edges()
+        self.model
+            .edge_chunks()
             .iter()
-            .all(|edge| self.is_pair_included(r, s, Edge::from(*edge)))
+            .all(|bytes| self.is_pair_included(r, s, Edge::from(*bytes)))
     }
 
     // Whether one edge makes the steps of two, if the second goes on from the first.
@@ -54,16 +63,17 @@ impl Formed<'_> {
             || self
                 .edges_from(role_name, edge.to)
                 .iter()
-                .all(|next| self.has_shortcut(edge, Edge::from(*next)))
+                .all(|bytes| self.has_shortcut(edge, Edge::from(*bytes)))
     }
 
     // Whether a role is transitive. It is so exactly if its name is.
     fn is_transitive(&self, role: u16) -> bool
         ensures { T result ↔ IsTransitive (described self.now.model.now) role }
     {
-        self.edges()
+        self.model
+            .edge_chunks()
             .iter()
-            .all(|edge| self.is_shortened(role / 2, Edge::from(*edge)))
+            .all(|bytes| self.is_shortened(role / 2, Edge::from(*bytes)))
     }
 
     // Whether the model meets a role axiom.

@@ -10,9 +10,9 @@ impl Formed<'_> {
     pub(crate) fn has_edge(&self, edge: Edge) -> bool
         ensures { result ≡ joined self.now.model.now.edges.now edge.role_name edge.from edge.to }
     {
-        let edges = self.edges();
-        edges
-            .binary_search_by_key(&edge, |listed| Edge::from(*listed))
+        let listed = self.model.edge_chunks();
+        listed
+            .binary_search_by_key(&edge, |bytes| Edge::from(*bytes))
             .is_ok()
     }
 
@@ -20,8 +20,9 @@ impl Formed<'_> {
     fn edges_before(&self, edge: Edge) -> usize
         ensures { Stands self.now.model.now.edges.now edge result }
     {
-        let edges = self.edges();
-        edges.partition_point(|listed| Edge::from(*listed) < edge)
+        self.model
+            .edge_chunks()
+            .partition_point(|bytes| Edge::from(*bytes) < edge)
     }
 
     // The edges of a role name that lead from an element, each as its bytes. They stand together.
@@ -38,6 +39,6 @@ impl Formed<'_> {
             from,
             to: u16::MAX,
         });
-        &self.edges()[start..stop]
+        &self.model.edge_chunks()[start..stop]
     }
 }

@@ -10,6 +10,6 @@ find-requires-clause-callable c = serves_from_Range (λ x q k. search (rules, te
 pub returns : goal.returns
 returns c =
     let m = c.args.model.now in
-    first_number _ _ _ _ c.edges.ensures.len (first_from_Range _ _ _ _ (λ i. GoodEdge m.edges.now m.size i → ⊥) (λ i. GoodEdge m.edges.now m.size i) c.find.ensures.ran
+    first_number _ _ _ _ c.edge_chunks.ensures.many (first_from_Range _ _ _ _ (λ i. GoodEdge m.edges.now m.size i → ⊥) (λ i. GoodEdge m.edges.now m.size i) c.find.ensures.ran
     (λ x q k. search (rules, tests))
     (λ x q k. (search rules, search (rules, tests))))

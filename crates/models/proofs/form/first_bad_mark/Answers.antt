@@ -10,6 +10,6 @@ find-requires-clause-callable c = serves_from_Range (λ x q k. search (rules, te
 pub returns : goal.returns
 returns c =
     let m = c.args.model.now in
-    first_number _ _ _ _ c.marks.ensures.len (first_from_Range _ _ _ _ (λ i. GoodMark m.marks.now m.size i → ⊥) (λ i. GoodMark m.marks.now m.size i) c.find.ensures.ran
+    first_number _ _ _ _ c.mark_chunks.ensures.many (first_from_Range _ _ _ _ (λ i. GoodMark m.marks.now m.size i → ⊥) (λ i. GoodMark m.marks.now m.size i) c.find.ensures.ran
     (λ x q k. search (rules, tests))
     (λ x q k. (search rules, search (rules, tests))))

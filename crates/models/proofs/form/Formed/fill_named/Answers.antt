@@ -1,7 +1,6 @@
 use Rattle.std.proofs.Common.{◌≡◌, ℕ, Bool, eqb, ap, ◌∙◌, arith, rules}
 use Rattle.std.proofs.lemmas.Bool.{eq-eqb, ne_eqb}
 use Rattle.models.specs.Items.{mark_at, mark_element, mark_name}
-use Rattle.models.proofs.ChunkFacts.{mark_there}
 use Rattle.models.proofs.WalkFacts.{walk_none, walk_insert, walk_skip}
 use Rattle.models.proofs.form.Formed.fill_named.Goals as goal
 use Rattle.models.proofs.form.Formed.fill_named.Goals.{then-mark-name, else-mark-name}
@@ -16,8 +15,8 @@ insert-requires c =
     let self = c.args.self.now in
     let i = c.loop-bytes.bytes-index in
     let f = self.formed.sized.few_elements in
-    let e = (self.formed.good_marks i (omega (arith, c.marks-marks.ensures.len))).element_in_range in
-    let at = c.from-mark.ensures ∙ mark_there _ _ c.marks-marks.ensures.value i _ (omega (arith, c.marks-marks.ensures.len)) in
+    let e = (self.formed.good_marks i (omega (arith, c.mark_chunks-bytes-items.ensures.many))).element_in_range in
+    let at = c.from-mark.ensures ∙ c.mark_chunks-bytes-items.ensures.reads i _ (omega (arith, c.mark_chunks-bytes-items.ensures.many)) in
     (search rules, omega (arith, ap (λ m. m.element) at))
 
 pub loop-bytes-preserved : goal.loop-bytes-preserved
@@ -26,7 +25,7 @@ loop-bytes-preserved c =
     let i = c.loop-bytes.bytes-index in
     let p : ℕ → Bool = λ k. eqb (mark_name ms k) c.args.name in
     let s : ℕ → ℕ = λ k. mark_element ms k in
-    let at : c.from-mark.result ≡ mark_at ms i = c.from-mark.ensures ∙ mark_there _ _ c.marks-marks.ensures.value i _ (omega (arith, c.marks-marks.ensures.len)) in
+    let at : c.from-mark.result ≡ mark_at ms i = c.from-mark.ensures ∙ c.mark_chunks-bytes-items.ensures.reads i _ (omega (arith, c.mark_chunks-bytes-items.ensures.many)) in
     let name = ap (λ m. m.name) at in
     elim c.if-mark-name.branch [
       | then-mark-name w ↦ rw w.rows-is (walk_insert _ _ _ _ p s _ _ c.loop-bytes.invariant (eq-eqb _ _ (omega (arith, name))) (ap (λ m. m.element) at) w.insert.ensures)
