@@ -10,8 +10,8 @@ impl Formed<'_> {
     pub(crate) fn has_edge(&self, edge: Edge) -> bool
         ensures { result ≡ joined self.now.model.now.edges.now edge.role_name edge.from edge.to }
     {
-        let listed = self.model.edge_chunks();
-        listed
+        self.model
+            .edge_chunks()
             .binary_search_by_key(&edge, |bytes| Edge::from(*bytes))
             .is_ok()
     }

@@ -7,5 +7,5 @@ use Rattle.models.proofs.form.Formed.has_edge.Goals as goal
 pub returns : goal.returns
 returns c =
     let s = c.binary_search_by_key.ensures in
-    c.is_ok.ensures.value ∙ found c.args.self.now.model.now c.args.self.now.formed _ c.edge_chunks-listed.ensures c.args.edge _ s.bound
+    c.is_ok.ensures.value ∙ found c.args.self.now.model.now c.args.self.now.formed _ c.edge_chunks.ensures c.args.edge _ s.bound
     (s.position (λ bytes. edge_at bytes 0) (always_returns_same _ _ _ (λ a r f k. (search rules, search rules))))
