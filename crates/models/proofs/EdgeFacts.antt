@@ -1,8 +1,8 @@
 -- Listed edges, their order, and where an edge would stand.
-use Rattle.std.proofs.Common.{◌≡◌, ℕ, ◌+◌, ◌-◌, ◌<◌, ◌≤◌, Bool, true, false, T, List, [], length, get_or, take, drop, Less, Equal, Greater, Ordering, Ok, Err, Result, is_ok, refl, ap, ◌∙◌, ap₂, subst, inr, ⊎_elim, arith, eqb→eq, length-take-le, length-drop, get_or-take, get_or-drop}
+use Rattle.std.proofs.Common.{◌≡◌, ℕ, ◌+◌, ◌-◌, ◌<◌, ◌≤◌, Bool, true, false, T, eqb, ◌↔◌, List, [], length, get_or, take, drop, Less, Equal, Greater, Ordering, Ok, Err, Result, is_ok, ap, ◌∙◌, ap₂, subst, inr, ⊎_elim, arith, eqb→eq, length-take-le, length-drop, get_or-take, get_or-drop}
 use Rattle.std.proofs.lemmas.Bool.{cases_lt, both_ways}
 use Rattle.std.proofs.lemmas.Grind.{common_steps}
-use Rattle.std.proofs.lemmas.Cmp.{nat_cmp_total, on_total, then_total}
+use Rattle.std.proofs.lemmas.Cmp.{nat_cmp_total, on_total, then_total, tied_itself}
 use Rattle.std.proofs.lemmas.List.Sorted.{searchable_from_sorted}
 use Rattle.std.specs.Cmp.{IsTotalOrder}
 use Rattle.std.specs.Ordering.{nat_cmp, ordering_then, ordering_index, is_lt, is_gt}
@@ -12,25 +12,29 @@ use Rattle.models.specs.declared.items.Edge.{Edge}
 use Rattle.models.specs.Items.{edges_in, edge_at, edge_role, edge_from, edge_to, AreEdges, TripleBefore, EdgeBefore, joined}
 use Rattle.models.specs.Models.{WellFormed}
 use Rattle.models.specs.Searching.{Stands, LeaveFrom}
-use Rattle.models.proofs.Tests.{and_out, and_in, eq_T, same_test}
+use lib.Dec.{eqb_refl}
+use Rattle.models.proofs.Tests.{and_out, and_in, same_test}
 use Rattle.models.proofs.AnyFacts.{any_some, some_any}
 
--- the edge (r, x, y) is the one at i
-pub record IsEdge (es : List ℕ) (i r x y : ℕ) : Type 0 where
-  pub listed : i < edges_in es
-  pub role_is : edge_role es i ≡ r
-  pub from_is : edge_from es i ≡ x
-  pub to_is : edge_to es i ≡ y
-
-pub joined_out : (es : List ℕ) (r x y : ℕ) → T (joined es r x y) → (i : ℕ) × IsEdge es i r x y
+-- an edge is joined exactly if it is one of those listed
+pub joined_out : (es : List ℕ) (r x y : ℕ) → T (joined es r x y) → (i : ℕ) × (i < edges_in es) × (edge_at es i ≡ record { role_name = r; from = x; to = y })
 joined_out es r x y t =
     let w = any_some (edges_in es) _ t in
     let p = and_out _ _ w.2 in
     let q = and_out _ _ p.1 in
-    (w.0, record { listed = w.1; role_is = eqb→eq _ _ p.0; from_is = eqb→eq _ _ q.0; to_is = eqb→eq _ _ q.1 })
+    let role : edge_role es w.0 ≡ r = eqb→eq _ _ p.0 in
+    let source : edge_from es w.0 ≡ x = eqb→eq _ _ q.0 in
+    let target : edge_to es w.0 ≡ y = eqb→eq _ _ q.1 in
+    (w.0, w.1, λ h. record { role_name = role h; from = source h; to = target h })
 
-pub joined_in : (es : List ℕ) (i r x y : ℕ) → IsEdge es i r x y → T (joined es r x y)
-joined_in es i r x y e = some_any (edges_in es) _ i e.listed (and_in _ _ (eq_T _ _ e.role_is) (and_in _ _ (eq_T _ _ e.from_is) (eq_T _ _ e.to_is)))
+pub joined_in : (es : List ℕ) (i : ℕ) → i < edges_in es → T (joined es (edge_role es i) (edge_from es i) (edge_to es i))
+joined_in es i l = some_any (edges_in es) _ i l (and_in (eqb (edge_role es i) (edge_role es i)) _ (eqb_refl (edge_role es i)) (and_in (eqb (edge_from es i) (edge_from es i)) _ (eqb_refl (edge_from es i)) (eqb_refl (edge_to es i))))
+
+abbrev pub Joined : List ℕ → Edge → Type 0
+Joined es e = T (joined es e.role_name e.from e.to)
+
+pub all_joined : (P : Edge → Type 0) (es : List ℕ) → ((k : ℕ) → k < edges_in es → P (edge_at es k)) ↔ ((e : Edge) → Joined es e → P e)
+all_joined P es = ((λ f e t. let (i, l, q) = joined_out es e.role_name e.from e.to t in subst P q (f i l)), λ f k l. f (edge_at es k) (joined_in es k l))
 
 -- the order that is derived for edges
 abbrev pub edge_cmp : Edge → Edge → Ordering
@@ -48,11 +52,8 @@ less_before e f h = grind (arith, common_steps)
 before_above : (e f : Edge) → EdgeBefore e f → is_lt (edge_cmp f e) ≡ false
 before_above e f h = grind (arith, common_steps)
 
-equal_parts : (e f : Edge) → edge_cmp e f ≡ Equal → (e.role_name ≡ f.role_name) × (e.from ≡ f.from) × (e.to ≡ f.to)
-equal_parts e f h = grind (arith, common_steps)
-
-parts_equal : (e f : Edge) → e.role_name ≡ f.role_name → e.from ≡ f.from → e.to ≡ f.to → (o : Ordering) → edge_cmp e f ≡ o → o ≡ Equal
-parts_equal e f h k l o q = grind (arith, common_steps)
+equal_same : (e f : Edge) → edge_cmp e f ≡ Equal → e ≡ f
+equal_same e f h = grind (arith, common_steps)
 
 module _ (m : Model) (formed : WellFormed m) (chunks : List (List ℕ)) (are : AreEdges m.edges.now chunks) where
   abbrev es : List ℕ
@@ -77,16 +78,14 @@ module _ (m : Model) (formed : WellFormed m) (chunks : List (List ℕ)) (are : A
   pub found : (w : Edge) (r : Result ℕ ℕ) → IsSearchInRange r (length chunks) → IsBinarySearchResult (λ c. edge_cmp (key c) w) chunks r → is_ok r ≡ joined es w.role_name w.from w.to
   found w (Ok i) l s =
       let h : i < edges_in es = omega (arith, l, are.many) in
-      let q = equal_parts (edge_at es i) w (there (λ e. edge_cmp e w ≡ Equal) i h (s [])) in
-      same_test true _ (λ _. joined_in es i _ _ _ (record { listed = h; role_is = q.0; from_is = q.1; to_is = q.2 })) (λ _. tt)
+      same_test true _ (λ _. subst (Joined es) (equal_same (edge_at es i) w (there (λ e. edge_cmp e w ≡ Equal) i h (s []))) (joined_in es i h)) (λ _. tt)
   found w (Err i) l s = same_test false _ (λ z. absurd z) (λ t.
-      let (j, e) = joined_out es _ _ _ t in
-      let k = e.listed in
+      let (j, k, e) = joined_out es _ _ _ t in
       let p = s (searchable w) in
-      let equal : (o : Ordering) → edge_cmp (edge_at es j) w ≡ o → o ≡ Equal = parts_equal (edge_at es j) w e.role_is e.from_is e.to_is in
+      let equal = tied_itself edge_order w in
       ⊎_elim
-      (λ (h : j < i). both_ways (is_lt (edge_cmp (edge_at es j) w)) (ap (λ o. is_lt o) (equal _ refl)) (ap (λ o. is_lt o) (there (λ e. edge_cmp e w ≡ Less) j k (p.0 j [] (omega arith) h))))
-      (λ (h : i ≤ j). both_ways (is_gt (edge_cmp (edge_at es j) w)) (ap (λ o. is_gt o) (equal _ refl)) (ap (λ o. is_gt o) (there (λ e. edge_cmp e w ≡ Greater) j k (p.1 j [] h (omega (arith, are.many))))))
+      (λ (h : j < i). both_ways (is_lt (edge_cmp w w)) (ap (λ o. is_lt o) equal) (ap (λ o. is_lt o) (subst (λ f. edge_cmp f w ≡ Less) e (there (λ f. edge_cmp f w ≡ Less) j k (p.0 j [] (omega arith) h)))))
+      (λ (h : i ≤ j). both_ways (is_gt (edge_cmp w w)) (ap (λ o. is_gt o) equal) (ap (λ o. is_gt o) (subst (λ f. edge_cmp f w ≡ Greater) e (there (λ f. edge_cmp f w ≡ Greater) j k (p.1 j [] h (omega (arith, are.many)))))))
       (cases_lt j i))
 
   -- whether a chunk is of an edge before w
