@@ -28,7 +28,7 @@ joined_out es r x y t =
     (w.0, w.1, λ h. record { role_name = role h; from = source h; to = target h })
 
 pub joined_in : (es : List ℕ) (i : ℕ) → i < edges_in es → T (joined es (edge_role es i) (edge_from es i) (edge_to es i))
-joined_in es i l = some_any (edges_in es) _ i l (and_in (eqb (edge_role es i) (edge_role es i)) _ (eqb_refl (edge_role es i)) (and_in (eqb (edge_from es i) (edge_from es i)) _ (eqb_refl (edge_from es i)) (eqb_refl (edge_to es i))))
+joined_in es i l = some_any (edges_in es) _ i l (grind (arith, common_steps))
 
 abbrev pub Joined : List ℕ → Edge → Type 0
 Joined es e = T (joined es e.role_name e.from e.to)
