@@ -1,5 +1,5 @@
 -- Listed edges, their order, and where an edge would stand.
-use Rattle.std.proofs.Common.{◌≡◌, ℕ, ◌+◌, ◌-◌, ◌<◌, ◌≤◌, Bool, true, false, T, eqb, ◌↔◌, List, [], length, get_or, take, drop, Less, Equal, Greater, Ordering, Ok, Err, Result, is_ok, ap, ◌∙◌, ap₂, subst, inr, ⊎_elim, arith, eqb→eq, length-take-le, length-drop, get_or-take, get_or-drop}
+use Rattle.std.proofs.Common.{◌≡◌, ℕ, ◌+◌, ◌-◌, ◌<◌, ◌≤◌, Bool, true, false, T, ◌↔◌, List, [], length, get_or, take, drop, Less, Equal, Greater, Ordering, Ok, Err, Result, is_ok, ap, ◌∙◌, ap₂, subst, inr, ⊎_elim, arith, eqb→eq, length-take-le, length-drop, get_or-take, get_or-drop}
 use Rattle.std.proofs.lemmas.Bool.{cases_lt, both_ways}
 use Rattle.std.proofs.lemmas.Grind.{common_steps}
 use Rattle.std.proofs.lemmas.Cmp.{nat_cmp_total, on_total, then_total, tied_itself}
@@ -12,8 +12,7 @@ use Rattle.models.specs.declared.items.Edge.{Edge}
 use Rattle.models.specs.Items.{edges_in, edge_at, edge_role, edge_from, edge_to, AreEdges, TripleBefore, EdgeBefore, joined}
 use Rattle.models.specs.Models.{WellFormed}
 use Rattle.models.specs.Searching.{Stands, LeaveFrom}
-use lib.Dec.{eqb_refl}
-use Rattle.models.proofs.Tests.{and_out, and_in, same_test}
+use Rattle.models.proofs.Tests.{and_out, same_test}
 use Rattle.models.proofs.AnyFacts.{any_some, some_any}
 
 -- an edge is joined exactly if it is one of those listed

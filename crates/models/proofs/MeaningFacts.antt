@@ -1,5 +1,5 @@
 -- A concept's row, computed from the rows of its parts, says what the concept means.
-use Rattle.std.proofs.Common.{◌≡◌, ℕ, ◌+◌, ◌/◌, ◌<◌, Bool, true, false, not, T, ltb, ◌↔◌, List, length, get_or, sym, refl, subst, inl, inr, ⊎_elim, arith, eqb→eq, ltb→lt, lt→ltb, T_not}
+use Rattle.std.proofs.Common.{◌≡◌, ℕ, ◌+◌, ◌/◌, ◌<◌, Bool, true, not, T, ltb, ◌↔◌, List, length, get_or, sym, refl, subst, inl, inr, ⊎_elim, arith, eqb→eq, ltb→lt, lt→ltb, T_not}
 use lib.Dec.{not_T}
 use Rattle.std.proofs.lemmas.Bool.{cases_eq}
 use Rattle.std.proofs.lemmas.Grind.{common_steps}
@@ -16,7 +16,7 @@ use Rattle.models.specs.declared.Model.{Model}
 use Rattle.models.specs.Items.{edges_in, edge_role, edge_source, edge_target, marks_in, marked}
 use Rattle.models.specs.Models.{WellFormed, described}
 use Rattle.models.specs.Evaluation.{reaches, computed, RowsHold}
-use Rattle.models.proofs.Tests.{and_out, and_in, or_out, or_left, or_right, eq_T, either_way}
+use Rattle.models.proofs.Tests.{and_out, and_in, eq_T, either_way}
 use Rattle.models.proofs.AnyFacts.{any_some, some_any}
 use Rattle.models.proofs.PairFacts.{element, in_range, leads_out, leads_in, source_in_range, target_in_range}
 
@@ -96,8 +96,7 @@ module _ (m : Model) (formed : WellFormed m) where
   computed_means rows c o (And a b) p e l = let q = two_below a b c p in let x = o a e q.0 l in let n = formed.sized.inhabited in grind (arith, common_steps)
   computed_means rows c o (Or a b) p e l = let q = two_below a b c p in let x = o a e q.0 l in let y = o b e q.1 l in let n = formed.sized.inhabited in grind (arith, common_steps)
   computed_means rows c o (Only r b) p e l =
-      let outside : ℕ → Bool = λ y. not (contains rows b y) in
-      (
+      let outside : ℕ → Bool = λ y. not (contains rows b y) in (
         (λ t.
             let q = turned_out (ltb e m.size) (reaches es r outside e) (λ u. lt→ltb e m.size (reached_in_range r outside e u)) t in
             (element m e (ltb→lt e m.size q.0), λ y hy g. ⊎_elim (λ z. z) (λ z. absurd (T_not _ q.1 (leads_reaches r outside e y g z))) (either_way (contains rows b y)))),
