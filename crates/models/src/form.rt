@@ -45,6 +45,9 @@ fn is_sized(model: &Model) -> bool
         && edges.len() / 6 <= 4096
 }
 
+// Marks and edges are tested each by functions of their own: one over both would take the test of the fields as a
+// parameter, and its contract would say no more than that it was called.
+
 // Whether mark `i` is in range, and above the one before.
 fn is_good_mark(model: &Model, i: usize) -> bool
     requires { i < marks_in model.now.marks.now }
