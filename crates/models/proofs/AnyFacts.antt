@@ -20,7 +20,7 @@ any_same (suc n) f g h = ap₂ ◌||◌ (any_same n f g (λ k l. h k (omega arit
 pub any_some : (n : ℕ) (f : ℕ → Bool) → T (any_below n f) → (i : ℕ) × (i < n) × T (f i)
 unfolding any_below
 any_some zero f h = absurd h
-any_some (suc n) f h = ⊎_elim (λ t. let w = any_some n f t in let l : w.0 < n = w.1 in (w.0, omega arith, w.2)) (λ t. (n, omega arith, t)) (or_out (any_below n f) (f n) h)
+any_some (suc n) f h = ⊎_elim (λ t. let (i, l, u) = any_some n f t in (i, omega arith, u)) (λ t. (n, omega arith, t)) (or_out (any_below n f) (f n) h)
 
 pub some_any : (n : ℕ) (f : ℕ → Bool) (i : ℕ) → i < n → T (f i) → T (any_below n f)
 unfolding any_below

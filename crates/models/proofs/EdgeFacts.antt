@@ -1,90 +1,131 @@
 -- Listed edges, their order, and where an edge would stand.
-use Rattle.std.proofs.Common.{◌≡◌, ℕ, zero, suc, ◌+◌, ◌-◌, ◌*◌, ◌<◌, ◌≤◌, true, false, T, ◌≢◌, List, sym, ap, ◌∙◌, subst, inl, inr, ⊎_elim, arith, eqb→eq}
-use Rattle.std.proofs.lemmas.Bool.{cases_eq, cases_lt}
+use Rattle.std.proofs.Common.{◌≡◌, ℕ, ◌+◌, ◌-◌, ◌<◌, ◌≤◌, Bool, true, false, T, ◌↔◌, List, [], length, get_or, take, drop, Less, Equal, Greater, Ordering, Ok, Err, Result, is_ok, ap, ◌∙◌, ap₂, subst, inr, ⊎_elim, arith, eqb→eq, length-take-le, length-drop, get_or-take, get_or-drop}
+use Rattle.std.proofs.lemmas.Bool.{cases_lt, both_ways}
+use Rattle.std.proofs.lemmas.Grind.{common_steps}
+use Rattle.std.proofs.lemmas.Cmp.{nat_cmp_total, on_total, then_total, tied_itself}
+use Rattle.std.proofs.lemmas.List.Sorted.{searchable_from_sorted}
+use Rattle.std.specs.Cmp.{IsTotalOrder}
+use Rattle.std.specs.Ordering.{nat_cmp, ordering_then, ordering_index, is_lt, is_gt}
+use Rattle.std.specs.List.Sorted.{IsNonDecreasingBy, IsBinarySearchResult, IsPartitionedBy, IsPartitionPoint, IsSearchInRange}
 use Rattle.models.specs.declared.Model.{Model}
-use Rattle.models.specs.Items.{edges_in, edge_role, edge_from, edge_to, TripleBefore, joined, rank, edge_rank}
+use Rattle.models.specs.declared.items.Edge.{Edge}
+use Rattle.models.specs.Items.{edges_in, edge_at, edge_role, edge_from, edge_to, AreEdges, TripleBefore, EdgeBefore, joined}
 use Rattle.models.specs.Models.{WellFormed}
-use Rattle.models.specs.Searching.{Stands}
-use Rattle.models.proofs.Tests.{and_out, and_in, eq_T, same_test}
+use Rattle.models.specs.Searching.{Stands, LeaveFrom}
+use Rattle.models.proofs.Tests.{and_out, same_test}
 use Rattle.models.proofs.AnyFacts.{any_some, some_any}
 
--- the edge (r, x, y) is the one at i
-pub record IsEdge (es : List ℕ) (i r x y : ℕ) : Type 0 where
-  pub listed : i < edges_in es
-  pub role_is : edge_role es i ≡ r
-  pub from_is : edge_from es i ≡ x
-  pub to_is : edge_to es i ≡ y
-
-pub joined_out : (es : List ℕ) (r x y : ℕ) → T (joined es r x y) → (i : ℕ) × IsEdge es i r x y
+-- an edge is joined exactly if it is one of those listed
+pub joined_out : (es : List ℕ) (r x y : ℕ) → T (joined es r x y) → (i : ℕ) × (i < edges_in es) × (edge_at es i ≡ record { role_name = r; from = x; to = y })
 joined_out es r x y t =
     let w = any_some (edges_in es) _ t in
     let p = and_out _ _ w.2 in
     let q = and_out _ _ p.1 in
-    (w.0, record { listed = w.1; role_is = eqb→eq _ _ p.0; from_is = eqb→eq _ _ q.0; to_is = eqb→eq _ _ q.1 })
+    let role : edge_role es w.0 ≡ r = eqb→eq _ _ p.0 in
+    let source : edge_from es w.0 ≡ x = eqb→eq _ _ q.0 in
+    let target : edge_to es w.0 ≡ y = eqb→eq _ _ q.1 in
+    (w.0, w.1, λ h. record { role_name = role h; from = source h; to = target h })
 
-pub joined_in : (es : List ℕ) (i r x y : ℕ) → IsEdge es i r x y → T (joined es r x y)
-joined_in es i r x y e = some_any (edges_in es) _ i e.listed (and_in _ _ (eq_T _ _ e.role_is) (and_in _ _ (eq_T _ _ e.from_is) (eq_T _ _ e.to_is)))
+pub joined_in : (es : List ℕ) (i : ℕ) → i < edges_in es → T (joined es (edge_role es i) (edge_from es i) (edge_to es i))
+joined_in es i l = some_any (edges_in es) _ i l (grind (arith, common_steps))
 
--- fields are below 65,536, so that ranks tell edges apart and order them
+abbrev pub Joined : List ℕ → Edge → Type 0
+Joined es e = T (joined es e.role_name e.from e.to)
 
-same_rank : (r x y r' x' y' : ℕ) → x < 65536 → y < 65536 → x' < 65536 → y' < 65536 → rank r x y ≡ rank r' x' y' → (r ≡ r') × (x ≡ x') × (y ≡ y')
-same_rank r x y r' x' y' a b c d e =
-    let p : 65536 * r + x ≡ 65536 * r' + x' = omega arith in
-    let q : r ≡ r' = omega arith in
-    (q, omega arith, omega arith)
+pub all_joined : (P : Edge → Type 0) (es : List ℕ) → ((k : ℕ) → k < edges_in es → P (edge_at es k)) ↔ ((e : Edge) → Joined es e → P e)
+all_joined P es = ((λ f e t. let (i, l, q) = joined_out es e.role_name e.from e.to t in subst P q (f i l)), λ f k l. f (edge_at es k) (joined_in es k l))
 
-rank_order : (r x y r' x' y' : ℕ) → x < 65536 → y < 65536 → TripleBefore r x y r' x' y' → rank r x y < rank r' x' y'
-rank_order r x y r' x' y' a b (inl l) = omega arith
-rank_order r x y r' x' y' a b (inr (e, inl l)) = omega arith
-rank_order r x y r' x' y' a b (inr (e, inr (f, l))) = omega arith
+-- the order that is derived for edges
+abbrev pub edge_cmp : Edge → Edge → Ordering
+edge_cmp e f = ordering_then (nat_cmp e.role_name f.role_name) (ordering_then (nat_cmp e.from f.from) (nat_cmp e.to f.to))
 
-module _ (m : Model) (formed : WellFormed m) where
+edge_order : IsTotalOrder edge_cmp
+edge_order = then_total (on_total (λ e. e.role_name) nat_cmp_total) (then_total (on_total (λ e. e.from) nat_cmp_total) (on_total (λ e. e.to) nat_cmp_total))
+
+before_less : (e f : Edge) → EdgeBefore e f → is_lt (edge_cmp e f) ≡ true
+before_less e f h = grind (arith, common_steps)
+
+less_before : (e f : Edge) → is_lt (edge_cmp e f) ≡ true → EdgeBefore e f
+less_before e f h = grind (arith, common_steps)
+
+before_above : (e f : Edge) → EdgeBefore e f → is_lt (edge_cmp f e) ≡ false
+before_above e f h = grind (arith, common_steps)
+
+equal_same : (e f : Edge) → edge_cmp e f ≡ Equal → e ≡ f
+equal_same e f h = grind (arith, common_steps)
+
+module _ (m : Model) (formed : WellFormed m) (chunks : List (List ℕ)) (are : AreEdges m.edges.now chunks) where
   abbrev es : List ℕ
   es = m.edges.now
 
-  small : (x : ℕ) → x < m.size → x < 65536
-  small x h = let f = formed.sized.few_elements in omega arith
+  abbrev key : List ℕ → Edge
+  key c = edge_at c 0
 
-  rank_rises : (i : ℕ) → suc i < edges_in es → edge_rank es i < edge_rank es (suc i)
-  rank_rises i h =
-      let g = formed.good_edges i (omega arith) in
-      let e : suc i - 1 ≡ i = omega arith in
-      rank_order _ _ _ _ _ _ (small _ g.from_in_range) (small _ g.to_in_range)
-      (subst (λ k. TripleBefore (edge_role es k) (edge_from es k) (edge_to es k) (edge_role es (suc i)) (edge_from es (suc i)) (edge_to es (suc i))) e
-      ((formed.good_edges (suc i) h).edge_rises (omega arith)))
+  -- what the chunk at i says of a key is said of edge i, and back
+  there : (P : Edge → Type 0) (i : ℕ) → i < edges_in es → P (key (get_or chunks i [])) → P (edge_at es i)
+  there P i h = subst P (are.reads i [] h)
 
-  pub ranks_rise : (i j : ℕ) → i ≤ j → j < edges_in es → edge_rank es i ≤ edge_rank es j
-  ranks_rise i zero h k = let e : i ≡ 0 = omega arith in subst (λ x. edge_rank es x ≤ edge_rank es 0) (sym e) (omega arith)
-  ranks_rise i (suc j) h k = ⊎_elim
-      (λ (e : i ≡ suc j). subst (λ x. edge_rank es x ≤ edge_rank es (suc j)) (sym e) (omega arith))
-      (λ (d : i ≡ suc j → ⊥). below (edge_rank es i) (edge_rank es j) (edge_rank es (suc j)) (ranks_rise i j (omega arith) (omega arith)) (rank_rises j k))
-      (cases_eq i (suc j))
-    where
-      below : (x y z : ℕ) → x ≤ y → y < z → x ≤ z
-      below x y z p q = omega arith
+  searchable : (w : Edge) → IsNonDecreasingBy (λ c. ordering_index (edge_cmp (key c) w)) chunks
+  searchable w = searchable_from_sorted edge_order key chunks w (λ k d l h.
+      let first : k < edges_in es = omega (arith, are.many) in
+      let last : k + 1 < edges_in es = omega (arith, are.many) in
+      let e : k + 1 - 1 ≡ k = omega arith in
+      ap₂ (λ f e. is_lt (edge_cmp f e)) (are.reads (k + 1) d last) (are.reads k d first)
+      ∙ before_above (edge_at es k) (edge_at es (k + 1)) (subst (λ i. EdgeBefore (edge_at es i) (edge_at es (k + 1))) e ((formed.good_edges (k + 1) last).edge_rises (omega arith))))
 
-  -- the edge is listed where its rank stands
-  pub joined_here : (r x y i : ℕ) → x < 65536 → y < 65536 → i < edges_in es → edge_rank es i ≡ rank r x y → joined es r x y ≡ true
-  joined_here r x y i hx hy k e =
-      let g = formed.good_edges i k in
-      let s = same_rank _ _ _ r x y (small _ g.from_in_range) (small _ g.to_in_range) hx hy e in
-      same_test _ true (λ _. tt) (λ _. joined_in es i r x y (record { listed = k; role_is = s.0; from_is = s.1; to_is = s.2 }))
+  -- the search finds exactly a listed edge
+  pub found : (w : Edge) (r : Result ℕ ℕ) → IsSearchInRange r (length chunks) → IsBinarySearchResult (λ c. edge_cmp (key c) w) chunks r → is_ok r ≡ joined es w.role_name w.from w.to
+  found w (Ok i) l s =
+      let h : i < edges_in es = omega (arith, l, are.many) in
+      same_test true _ (λ _. subst (Joined es) (equal_same (edge_at es i) w (there (λ e. edge_cmp e w ≡ Equal) i h (s []))) (joined_in es i h)) (λ _. tt)
+  found w (Err i) l s = same_test false _ (λ z. absurd z) (λ t.
+      let (j, k, e) = joined_out es _ _ _ t in
+      let p = s (searchable w) in
+      let equal = tied_itself edge_order w in
+      ⊎_elim
+      (λ (h : j < i). both_ways (is_lt (edge_cmp w w)) (ap (λ o. is_lt o) equal) (ap (λ o. is_lt o) (subst (λ f. edge_cmp f w ≡ Less) e (there (λ f. edge_cmp f w ≡ Less) j k (p.0 j [] (omega arith) h)))))
+      (λ (h : i ≤ j). both_ways (is_gt (edge_cmp w w)) (ap (λ o. is_gt o) equal) (ap (λ o. is_gt o) (subst (λ f. edge_cmp f w ≡ Greater) e (there (λ f. edge_cmp f w ≡ Greater) j k (p.1 j [] h (omega (arith, are.many)))))))
+      (cases_lt j i))
 
-  -- it is not listed where another stands in its place, or nothing does
-  pub joined_nowhere : (r x y i : ℕ) → Stands es (rank r x y) i → (i < edges_in es → edge_rank es i ≢ rank r x y) → joined es r x y ≡ false
-  joined_nowhere r x y i s n = same_test _ false absent (λ z. absurd z)
-    where
-      less : (p q : ℕ) → p < q → p ≡ q → ⊥
-      less p q u v = omega arith
+  -- whether a chunk is of an edge before w
+  abbrev pub comes_before : Edge → List ℕ → Bool
+  comes_before w c = is_lt (edge_cmp (key c) w)
 
-      between : (p q z : ℕ) → q ≤ p → p ≤ z → z ≡ q → p ≡ q
-      between p q z u v e = omega arith
+  pub parted : (w : Edge) → IsPartitionedBy (comes_before w) chunks
+  parted w i j d l h t = let s = searchable w i j d l h in grind (arith, common_steps)
 
-      absent : T (joined es r x y) → ⊥
-      absent t =
-          let (j, e) = joined_out es r x y t in
-          let is : edge_rank es j ≡ rank r x y =
-          ap (λ z. rank z (edge_from es j) (edge_to es j)) e.role_is ∙ ap (λ z. rank r z (edge_to es j)) e.from_is ∙ ap (λ z. rank r x z) e.to_is in
-          let l : i ≤ j = ⊎_elim (λ (h : j < i). absurd (less _ _ (s.before j h) is)) (λ (h : i ≤ j). h) (cases_lt j i) in
-          let k = e.listed in
-          n (omega arith) (between _ _ _ (s.after i (omega arith) (omega arith)) (ranks_rise i j l k) is)
+  pub stands : (w : Edge) (i : ℕ) → i ≤ length chunks → IsPartitionPoint (λ c. comes_before w c ≡ true) (λ c. comes_before w c ≡ false) chunks i → Stands es w i
+  stands w i l s = record {
+    within = omega (arith, are.many);
+    before = λ k h. less_before (edge_at es k) w (there (λ e. is_lt (edge_cmp e w) ≡ true) k (omega (arith, are.many)) (s.0 k [] (omega arith) h));
+    after = λ k h u b. both_ways _ (there (λ e. is_lt (edge_cmp e w) ≡ false) k u (s.1 k [] h (omega (arith, are.many)))) (before_less (edge_at es k) w b);
+  }
+
+  -- the edges of role name a that lead from x stand between those of its first and its last
+  module _ (a x i j : ℕ) (p : Stands es (record { role_name = a; from = x; to = 0 }) i) (q : Stands es (record { role_name = a; from = x; to = 65535 }) j) where
+    pub in_order : i ≤ j
+    in_order = ⊎_elim (λ (h : j < i). let l = p.within in absurd (q.after j (omega arith) (omega arith) (wider _ _ _ (p.before j h)))) (λ (h : i ≤ j). h) (cases_lt j i)
+      where
+        wider : (r y t : ℕ) → TripleBefore r y t a x 0 → TripleBefore r y t a x 65535
+        wider r y t h = grind arith
+
+    pub between : LeaveFrom es a x (take (j - i) (drop i chunks))
+    between = record {
+      start = i;
+      within = let l = q.within in let o = in_order in omega (arith, size);
+      listed = λ k d h. ap (λ c. edge_at c 0) (get_or-take (j - i) (drop i chunks) k d (omega (arith, size)) ∙ get_or-drop i chunks k d)
+          ∙ are.reads (i + k) d (let l = q.within in omega (arith, size));
+      complete = λ k h r f. (
+        ⊎_elim (λ (l : k < i). absurd (least _ _ _ (p.before k l) r f)) (λ (l : i ≤ k). l) (cases_lt k i),
+        ⊎_elim (λ (l : k < j). let o = in_order in omega (arith, size)) (λ (l : j ≤ k). absurd (q.after k l h (inr (r, inr (f, small k h))))) (cases_lt k j),
+      );
+    }
+      where
+        size : length (take (j - i) (drop i chunks)) ≡ j - i
+        size = let l = q.within in length-take-le (j - i) (drop i chunks) (omega (arith, are.many, length-drop i chunks))
+
+        small : (k : ℕ) → k < edges_in es → edge_to es k < 65535
+        small k h = let t = (formed.good_edges k h).to_in_range in let f = formed.sized.few_elements in omega arith
+
+        least : (r y t : ℕ) → TripleBefore r y t a x 0 → r ≡ a → y ≡ x → ⊥
+        least r y t h e f = grind arith

@@ -1,4 +1,6 @@
 pub mod Tests
+pub mod FirstFacts
+pub mod ChunkFacts
 pub mod AnyFacts
 pub mod EdgeFacts
 pub mod PairFacts

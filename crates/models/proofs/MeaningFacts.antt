@@ -1,7 +1,8 @@
 -- A concept's row, computed from the rows of its parts, says what the concept means.
-use Rattle.std.proofs.Common.{◌≡◌, ℕ, ◌+◌, ◌/◌, ◌<◌, Bool, true, false, not, T, ltb, ◌↔◌, List, length, get_or, sym, refl, subst, inl, inr, ⊎_elim, arith, eqb→eq, ltb→lt, lt→ltb, T_not}
+use Rattle.std.proofs.Common.{◌≡◌, ℕ, ◌+◌, ◌/◌, ◌<◌, Bool, true, not, T, ltb, ◌↔◌, List, length, get_or, sym, refl, subst, inl, inr, ⊎_elim, arith, eqb→eq, ltb→lt, lt→ltb, T_not}
 use lib.Dec.{not_T}
 use Rattle.std.proofs.lemmas.Bool.{cases_eq}
+use Rattle.std.proofs.lemmas.Grind.{common_steps}
 use Rattle.register.specs.References.{all_below, Ordered}
 use Rattle.rows.specs.Rows.{contains, turned, RowBecomes}
 use Rattle.rows.proofs.RowFacts.{other_row}
@@ -15,7 +16,7 @@ use Rattle.models.specs.declared.Model.{Model}
 use Rattle.models.specs.Items.{edges_in, edge_role, edge_source, edge_target, marks_in, marked}
 use Rattle.models.specs.Models.{WellFormed, described}
 use Rattle.models.specs.Evaluation.{reaches, computed, RowsHold}
-use Rattle.models.proofs.Tests.{and_out, and_in, or_out, or_left, or_right, eq_T, either_way}
+use Rattle.models.proofs.Tests.{and_out, and_in, eq_T, either_way}
 use Rattle.models.proofs.AnyFacts.{any_some, some_any}
 use Rattle.models.proofs.PairFacts.{element, in_range, leads_out, leads_in, source_in_range, target_in_range}
 
@@ -33,14 +34,10 @@ means_map I H K c f (Exists r b) p e l h = (h.0, h.1, h.2, f b h.0 (one_below b 
 
 -- a set within t, and its complement in t
 turned_out : (t b : Bool) → (T b → T t) → T (turned t b) → T t × T (not b)
-turned_out true true f h = absurd h
-turned_out true false f h = (tt, tt)
-turned_out false true f h = absurd (f tt)
-turned_out false false f h = absurd h
+turned_out t b f h = grind (arith, common_steps)
 
 turned_in : (t b : Bool) → T t → T (not b) → T (turned t b)
-turned_in true b h k = k
-turned_in false b h k = absurd h
+turned_in t b h k = grind (arith, common_steps)
 
 -- edge i is a pair of role r that leads from e to what g passes
 record Reached (es : List ℕ) (r : ℕ) (g : ℕ → Bool) (e i : ℕ) : Type 0 where
@@ -92,28 +89,20 @@ module _ (m : Model) (formed : WellFormed m) where
   computed_means : (rows : List ℕ) (c : ℕ) → OnlyElements rows c → (k : Concept) → all_below (parts k) c ≡ true → (e : ℕ) → e < 256 →
       T (computed m rows k e) ↔ (Element I e × Means I (λ a x. T (contains rows a x)) k e)
   unfolding OnlyElements
-  computed_means rows c o Top p e l = (λ t. (element m e (ltb→lt e m.size t), tt), λ t. lt→ltb e m.size (in_range m e formed t.0))
+  computed_means rows c o Top p e l = let n = formed.sized.inhabited in grind (arith, common_steps)
   computed_means rows c o Bottom p e l = (λ t. absurd t, λ t. t.1)
   computed_means rows c o (Name a) p e l = (λ t. (element m e (marked_in_range a e t), t), λ t. t.1)
-  computed_means rows c o (NotName a) p e l = (
-    (λ t. let q = turned_out (ltb e m.size) (marked m.marks.now a e) (λ u. lt→ltb e m.size (marked_in_range a e u)) t in (element m e (ltb→lt e m.size q.0), q.1)),
-    λ t. turned_in (ltb e m.size) (marked m.marks.now a e) (lt→ltb e m.size (in_range m e formed t.0)) t.1,
-  )
-  computed_means rows c o (And a b) p e l = (
-    (λ t. let q = and_out (contains rows a e) (contains rows b e) t in (element m e (o a e (two_below a b c p).0 l q.0), q)),
-    λ t. and_in (contains rows a e) (contains rows b e) t.1.0 t.1.1,
-  )
-  computed_means rows c o (Or a b) p e l = (
-    (λ t. let q = or_out (contains rows a e) (contains rows b e) t in (element m e (⊎_elim (λ u. o a e (two_below a b c p).0 l u) (λ u. o b e (two_below a b c p).1 l u) q), q)),
-    λ t. ⊎_elim (λ u. or_left (contains rows a e) (contains rows b e) u) (λ u. or_right (contains rows a e) (contains rows b e) u) t.1,
-  )
-  computed_means rows c o (Only r b) p e l = (
-    (λ t.
-        let q = turned_out (ltb e m.size) (reaches es r (λ y. not (contains rows b y)) e) (λ u. lt→ltb e m.size (reached_in_range r (λ y. not (contains rows b y)) e u)) t in
-        (element m e (ltb→lt e m.size q.0), λ y hy g. ⊎_elim (λ z. z) (λ z. absurd (T_not _ q.1 (leads_reaches r (λ y. not (contains rows b y)) e y g z))) (either_way (contains rows b y)))),
-    λ t. turned_in (ltb e m.size) (reaches es r (λ y. not (contains rows b y)) e) (lt→ltb e m.size (in_range m e formed t.0))
-        (not_T _ (λ u. let (y, hy, g, z) = reaches_leads r (λ y. not (contains rows b y)) e u in T_not (contains rows b y) z (t.1 y hy g))),
-  )
+  computed_means rows c o (NotName a) p e l = let f = marked_in_range a e in let n = formed.sized.inhabited in grind (arith, common_steps)
+  computed_means rows c o (And a b) p e l = let q = two_below a b c p in let x = o a e q.0 l in let n = formed.sized.inhabited in grind (arith, common_steps)
+  computed_means rows c o (Or a b) p e l = let q = two_below a b c p in let x = o a e q.0 l in let y = o b e q.1 l in let n = formed.sized.inhabited in grind (arith, common_steps)
+  computed_means rows c o (Only r b) p e l =
+      let outside : ℕ → Bool = λ y. not (contains rows b y) in (
+        (λ t.
+            let q = turned_out (ltb e m.size) (reaches es r outside e) (λ u. lt→ltb e m.size (reached_in_range r outside e u)) t in
+            (element m e (ltb→lt e m.size q.0), λ y hy g. ⊎_elim (λ z. z) (λ z. absurd (T_not _ q.1 (leads_reaches r outside e y g z))) (either_way (contains rows b y)))),
+        λ t. turned_in (ltb e m.size) (reaches es r outside e) (lt→ltb e m.size (in_range m e formed t.0))
+            (not_T _ (λ u. let (y, hy, g, z) = reaches_leads r outside e u in T_not (contains rows b y) z (t.1 y hy g))),
+      )
   computed_means rows c o (Exists r b) p e l = (
     (λ t. (element m e (reached_in_range r (λ y. contains rows b y) e t), reaches_leads r (λ y. contains rows b y) e t)),
     λ t. leads_reaches r (λ y. contains rows b y) e t.1.0 t.1.2 t.1.3,

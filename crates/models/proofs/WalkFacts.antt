@@ -1,8 +1,8 @@
 -- A row that a walk over a list fills.
-use Rattle.std.proofs.Common.{◌≡◌, ℕ, ◌+◌, ◌<◌, Bool, true, false, ◌&&◌, ◌||◌, eqb, List, sym, refl, ap, ◌∙◌, ap₂}
+use Rattle.std.proofs.Common.{◌≡◌, ℕ, ◌+◌, ◌/◌, ◌<◌, Bool, true, false, ◌&&◌, ◌||◌, eqb, List, sym, refl, ap, ◌∙◌, ap₂}
 use mathlib.Core.Bool.{or-false, or_comm}
-use Rattle.rows.specs.Rows.{contains, RowBecomes}
-use Rattle.models.specs.Items.{any_below}
+use Rattle.rows.specs.Rows.{contains, turned, RowBecomes}
+use Rattle.models.specs.Items.{any_below, edge_role, edge_target}
 use Rattle.models.proofs.AnyFacts.{any_zero, any_more}
 
 -- one write after another
@@ -15,6 +15,10 @@ row_as a b c f g p h = record { elements = λ e l. p.elements e l ∙ h e l; oth
 -- the row so far: the elements s k of those k below i that p passes
 abbrev pub walked : (ℕ → Bool) → (ℕ → ℕ) → ℕ → ℕ → Bool
 walked p s i e = any_below i (λ k. p k && eqb (s k) e)
+
+-- whether edge k is a pair of role r whose target is inside, or outside
+abbrev pub hits : List ℕ → ℕ → Bool → (ℕ → Bool) → ℕ → Bool
+hits es r outside inside k = eqb (edge_role es k) (r / 2) && turned outside (inside (edge_target es r k))
 
 pub walk_none : (z old : List ℕ) (c : ℕ) (p : ℕ → Bool) (s : ℕ → ℕ) → RowBecomes z old c (λ _. false) → RowBecomes old old c (λ e. walked p s 0 e)
 walk_none z old c p s h = record { elements = λ e l. h.elements e l ∙ sym (any_zero (λ k. p k && eqb (s k) e)); others = λ i n. refl }

@@ -1,6 +1,8 @@
 -- The marks and the edges of a model, as they stand in bytes: a mark has two fields, an edge three.
-use Rattle.std.specs.Prelude.{◌≡◌, ℕ, zero, suc, ◌+◌, ◌-◌, ◌*◌, ◌/◌, ◌%◌, ◌<◌, Bool, false, cond, ◌&&◌, ◌||◌, ◌⊎◌, List, length, ◌==◌}
+use Rattle.std.specs.Prelude.{◌≡◌, ℕ, zero, suc, ◌+◌, ◌-◌, ◌*◌, ◌/◌, ◌%◌, ◌<◌, Bool, false, cond, ◌&&◌, ◌||◌, ◌⊎◌, List, length, ◌==◌, slice_index_or}
 use Rattle.file_bytes.specs.Bytes.{field}
+use Rattle.models.specs.declared.items.Mark.{Mark}
+use Rattle.models.specs.declared.items.Edge.{Edge}
 
 -- how many there are
 abbrev pub marks_in : List ℕ → ℕ
@@ -26,12 +28,31 @@ edge_from es i = field es (3 * i + 1)
 abbrev pub edge_to : List ℕ → ℕ → ℕ
 edge_to es i = field es (3 * i + 2)
 
+-- mark i and edge i as values
+abbrev pub mark_at : List ℕ → ℕ → Mark
+mark_at ms i = record { element = mark_element ms i; name = mark_name ms i }
+
+abbrev pub edge_at : List ℕ → ℕ → Edge
+edge_at es i = record { role_name = edge_role es i; from = edge_from es i; to = edge_to es i }
+
+-- the chunks are the bytes of the marks, and of the edges, each by itself
+pub record AreMarks (ms : List ℕ) (chunks : List (List ℕ)) : Type 0 where
+  pub many : length chunks ≡ marks_in ms
+  pub reads : (k : ℕ) (d : List ℕ) → k < marks_in ms → mark_at (slice_index_or chunks k d) 0 ≡ mark_at ms k
+
+pub record AreEdges (es : List ℕ) (chunks : List (List ℕ)) : Type 0 where
+  pub many : length chunks ≡ edges_in es
+  pub reads : (k : ℕ) (d : List ℕ) → k < edges_in es → edge_at (slice_index_or chunks k d) 0 ≡ edge_at es k
+
 -- the lexicographic order of pairs and of triples
 abbrev pub PairBefore : ℕ → ℕ → ℕ → ℕ → Type 0
 PairBefore x y x' y' = (x < x') ⊎ ((x ≡ x') × (y < y'))
 
 abbrev pub TripleBefore : ℕ → ℕ → ℕ → ℕ → ℕ → ℕ → Type 0
 TripleBefore r x y r' x' y' = (r < r') ⊎ ((r ≡ r') × PairBefore x y x' y')
+
+abbrev pub EdgeBefore : Edge → Edge → Type 0
+EdgeBefore e f = TripleBefore e.role_name e.from e.to f.role_name f.from f.to
 
 -- mark i is in range in a model of n elements, and above the one before
 pub record GoodMark (ms : List ℕ) (n i : ℕ) : Type 0 where
@@ -59,16 +80,15 @@ marked ms a e = any_below (marks_in ms) (λ i. (mark_name ms i == a) && mark_ele
 abbrev pub joined : List ℕ → ℕ → ℕ → ℕ → Bool
 joined es r x y = any_below (edges_in es) (λ i. (edge_role es i == r) && (edge_from es i == x && edge_to es i == y))
 
--- an edge as one number: the order of these numbers is the order of edges
-abbrev pub rank : ℕ → ℕ → ℕ → ℕ
-rank r x y = 65536 * (65536 * r + x) + y
+-- the ends of an edge along a role of its name, which may be the inverse
+abbrev pub source : ℕ → Edge → ℕ
+source r e = cond (r % 2 == 0) e.from e.to
 
-abbrev pub edge_rank : List ℕ → ℕ → ℕ
-edge_rank es i = rank (edge_role es i) (edge_from es i) (edge_to es i)
+abbrev pub target : ℕ → Edge → ℕ
+target r e = cond (r % 2 == 0) e.to e.from
 
--- the ends of edge i along a role of its name, which may be the inverse
 abbrev pub edge_source : List ℕ → ℕ → ℕ → ℕ
-edge_source es r i = cond (r % 2 == 0) (edge_from es i) (edge_to es i)
+edge_source es r i = source r (edge_at es i)
 
 abbrev pub edge_target : List ℕ → ℕ → ℕ → ℕ
-edge_target es r i = cond (r % 2 == 0) (edge_to es i) (edge_from es i)
+edge_target es r i = target r (edge_at es i)

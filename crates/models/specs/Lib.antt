@@ -1,6 +1,7 @@
 pub mod Firsts
 pub mod Items
 pub mod Models
+pub mod FormProps
 pub mod Searching
 pub mod Pairs
 pub mod Evaluation

@@ -1,8 +1,34 @@
-ghost use Rattle.std.specs.Prelude.{T, ◌↔◌};
-ghost use Rattle.models.specs.Models.{Sized, Flaw};
+ghost use Rattle.std.specs.Prelude.{◌≡◌, ◌<◌, T, ◌↔◌, MatchResult};
+ghost use Rattle.models.specs.Items.{marks_in, edges_in, GoodMark, GoodEdge};
+ghost use Rattle.models.specs.Models.{Sized, FirstBadMark, FirstBadEdge, WellFormed, FirstFlaw};
+ghost use Rattle.models.specs.FormProps.{WellFormed-prop};
 
 use crate::Model;
-use crate::items::{first_bad_edge, first_bad_mark};
+
+// A model that is well formed.
+#[derive(Clone, Copy)]
+pub(crate) struct Formed<'m> {
+    pub(crate) model: &'m Model<'m>,
+    ghost formed: { WellFormed model.now } by { WellFormed-prop model.now },
+}
+
+impl<'m> Formed<'m> {
+    // The model, or the place where it is wrong first.
+    pub(crate) fn new(model: &'m Model<'m>) -> Result<Formed<'m>, usize>
+        ensures { MatchResult result (λ formed. formed.model.now ≡ model.now) (λ place. FirstFlaw model.now place) }
+    {
+        if !is_sized(model) {
+            return Err(0);
+        }
+        if let Some(i) = first_bad_mark(model) {
+            return Err(1 + i);
+        }
+        if let Some(i) = first_bad_edge(model) {
+            return Err(1 + model.mark_count as usize + i);
+        }
+        Ok(Formed { model })
+    }
+}
 
 // Whether the numbers, the counts and the lengths are right.
 fn is_sized(model: &Model) -> bool
@@ -19,18 +45,40 @@ fn is_sized(model: &Model) -> bool
         && edges.len() / 6 <= 4096
 }
 
-// Where the model is wrong first, if anywhere.
-pub(crate) fn first_flaw(model: &Model) -> Option<usize>
-    ensures { Flaw model.now result }
+// Marks and edges are tested each by functions of their own: one over both would take the test of the fields as a
+// parameter, and its contract would say no more than that it was called.
+
+// Whether mark `i` is in range, and above the one before.
+fn is_good_mark(model: &Model, i: usize) -> bool
+    requires { i < marks_in model.now.marks.now }
+    ensures { T result ↔ GoodMark model.now.marks.now model.now.size i }
 {
-    if !is_sized(model) {
-        return Some(0);
-    }
-    if let Some(i) = first_bad_mark(model.marks, model.size) {
-        return Some(1 + i);
-    }
-    if let Some(i) = first_bad_edge(model.edges, model.size) {
-        return Some(1 + model.mark_count as usize + i);
-    }
-    None
+    let mark = model.mark(i);
+    mark.element < model.size && mark.name < 1024 && (i == 0 || model.mark(i - 1) < mark)
+}
+
+// The first bad mark.
+fn first_bad_mark(model: &Model) -> Option<usize>
+    ensures { FirstBadMark model.now result }
+{
+    (0..model.mark_chunks().len()).find(|i| !is_good_mark(model, *i))
+}
+
+// Whether edge `i` is in range, and above the one before.
+fn is_good_edge(model: &Model, i: usize) -> bool
+    requires { i < edges_in model.now.edges.now }
+    ensures { T result ↔ GoodEdge model.now.edges.now model.now.size i }
+{
+    let edge = model.edge(i);
+    edge.role_name < 64
+        && edge.from < model.size
+        && edge.to < model.size
+        && (i == 0 || model.edge(i - 1) < edge)
+}
+
+// The first bad edge.
+fn first_bad_edge(model: &Model) -> Option<usize>
+    ensures { FirstBadEdge model.now result }
+{
+    (0..model.edge_chunks().len()).find(|i| !is_good_edge(model, *i))
 }

@@ -12,7 +12,8 @@ ghost use Rattle.vocabulary.specs.Vocabularies.{concepts};
 ghost use Rattle.vocabulary.specs.Keeping.{Kept};
 ghost use Rattle.models.specs.Judging.{LabelStands, Judged};
 
-use crate::verdict::judge_by;
+use crate::form::Formed;
+use crate::verdict::Extensions;
 use refusals::Refusal;
 use vocabulary::Vocabulary;
 
@@ -39,12 +40,25 @@ pub fn judge(
 ) -> Result<(), Refusal>
     ensures judged { Kept vocabulary.now → 4 * length (concepts vocabulary.now) ≤ length rows.old → LabelStands (concepts vocabulary.now) label.now → Judged vocabulary.now label.now model.now rows.old result rows.new }
 {
-    judge_by(
-        vocabulary.role_axioms(),
-        vocabulary.concepts(),
-        vocabulary.axioms(),
-        label,
-        model,
-        rows,
-    )
+    let formed = Formed::new(model).map_err(Refusal::Model)?;
+    // Each search finds what is refused, so that its `Some` is the error.
+    if let Some(i) = formed.first_broken(vocabulary.role_axioms()) {
+        return Err(Refusal::RoleAxiom(i));
+    }
+    let concepts = vocabulary.concepts();
+    let count = concepts.len();
+    // Memory that is too short for the rows is refused too, so that a call is safe whatever it is given.
+    if rows.len() / 4 < count {
+        return Err(Refusal::Range(0));
+    }
+    formed.evaluate(rows, concepts);
+    let Model { size, point, .. } = *formed.model;
+    let extensions = Extensions { rows, count, size };
+    if let Some(i) = extensions.first_missed(vocabulary.axioms()) {
+        return Err(Refusal::Axiom(i));
+    }
+    if let Some(c) = extensions.least_missed(label, point) {
+        return Err(Refusal::Point(c));
+    }
+    Ok(())
 }

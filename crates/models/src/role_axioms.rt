@@ -1,121 +1,97 @@
-ghost use Rattle.std.specs.Prelude.{◌≡◌, ◌<◌, T, ◌↔◌, length, slice_index_or};
+ghost use Rattle.std.specs.Prelude.{◌≡◌, T, ◌↔◌, length, slice_index_or};
 ghost use Rattle.logic.specs.declared.role.RoleAxiom.TheVariants.{Inclusion};
 ghost use Rattle.logic.specs.Interpretations.{leads, Includes, IsTransitive, MeetsRoleAxiom};
 ghost use Rattle.models.specs.Firsts.{First};
-ghost use Rattle.models.specs.Items.{edges_in};
-ghost use Rattle.models.specs.Models.{WellFormed, described};
+ghost use Rattle.models.specs.Models.{described};
 ghost use Rattle.models.specs.Pairs.{PairIncluded, Shortcut, Shortened};
 
-use crate::Model;
-use crate::items::{edge_from, edge_role, edge_source, edge_target, edge_to, edges_in, rank};
-use crate::search::{edges_before, has_edge};
+use crate::form::Formed;
+use crate::items::Edge;
 use logic::role::RoleAxiom;
 
-// Whether a role leads from an element to another.
-fn leads(model: &Model, role: u16, from: u16, to: u16) -> bool
-    requires { WellFormed model.now }
-    ensures { result ≡ leads (described model.now) role from to }
-{
-    if role % 2 == 0 {
-        has_edge(model, role / 2, from, to)
-    } else {
-        has_edge(model, role / 2, to, from)
+impl Formed<'_> {
+    // Whether a role leads from an element to another.
+    fn leads(&self, role: u16, from: u16, to: u16) -> bool
+        ensures { result ≡ leads (described self.now.model.now) role from to }
+    {
+        let (from, to) = if role % 2 == 0 {
+            (from, to)
+        } else {
+            (to, from)
+        };
+        self.has_edge(Edge {
+            role_name: role / 2,
+            from,
+            to,
+        })
     }
-}
 
-// Whether an edge, if it is a pair of role `r`, is a pair of role `s`.
-fn is_pair_included(model: &Model, r: u16, s: u16, i: usize) -> bool
-    requires formed { WellFormed model.now }
-    requires listed { i < edges_in model.now.edges.now }
-    ensures { T result ↔ PairIncluded model.now r s i }
-{
-    let edges = model.edges;
-    edge_role(edges, i) != r / 2
-        || leads(model, s, edge_source(edges, r, i), edge_target(edges, r, i))
-}
+    // Whether an edge, if it is a pair of role `r`, is a pair of role `s`.
+    fn is_pair_included(&self, r: u16, s: u16, edge: Edge) -> bool
+        ensures { T result ↔ PairIncluded self.now.model.now r s edge }
+    {
+        edge.role_name != r / 2 || self.leads(s, edge.source(r), edge.target(r))
+    }
 
-// Whether every pair of role `r` is a pair of role `s`.
-fn is_included(model: &Model, r: u16, s: u16) -> bool
-    requires { WellFormed model.now }
-    ensures { T result ↔ Includes (described model.now) r s }
-{
-    for i in 0..edges_in(model.edges) {
-        if !is_pair_included(model, r, s, i) {
-            return false;
+    // Whether every pair of role `r` is a pair of role `s`.
+    fn is_included(&self, r: u16, s: u16) -> bool
+        ensures { T result ↔ Includes (described self.now.model.now) r s }
+    {
+        self.model
+            .edge_chunks()
+            .iter()
+            .all(|bytes| self.is_pair_included(r, s, Edge::from(*bytes)))
+    }
+
+    // Whether one edge makes the steps of two, if the second goes on from the first.
+    fn has_shortcut(&self, first: Edge, second: Edge) -> bool
+        ensures { T result ↔ Shortcut self.now.model.now first second }
+    {
+        second.role_name != first.role_name
+            || second.from != first.to
+            || self.has_edge(Edge {
+                to: second.to,
+                ..first
+            })
+    }
+
+    // Whether an edge, if it is of this role name, has all its shortcuts.
+    fn is_shortened(&self, role_name: u16, edge: Edge) -> bool
+        ensures { T result ↔ Shortened self.now.model.now role_name edge }
+    {
+        edge.role_name != role_name
+            || self
+                .edges_from(role_name, edge.to)
+                .iter()
+                .all(|bytes| self.has_shortcut(edge, Edge::from(*bytes)))
+    }
+
+    // Whether a role is transitive. It is so exactly if its name is.
+    fn is_transitive(&self, role: u16) -> bool
+        ensures { T result ↔ IsTransitive (described self.now.model.now) role }
+    {
+        self.model
+            .edge_chunks()
+            .iter()
+            .all(|bytes| self.is_shortened(role / 2, Edge::from(*bytes)))
+    }
+
+    // Whether the model meets a role axiom.
+    fn meets(&self, role_axiom: RoleAxiom) -> bool
+        ensures { T result ↔ MeetsRoleAxiom (described self.now.model.now) role_axiom }
+    {
+        match role_axiom {
+            RoleAxiom::Inclusion(r, s) => self.is_included(r, s),
+            RoleAxiom::Transitivity(role) => self.is_transitive(role),
         }
     }
-    true
-}
 
-// Whether one edge makes the steps of two, if the second goes on from the first.
-fn has_shortcut(model: &Model, i: usize, j: usize) -> bool
-    requires formed { WellFormed model.now }
-    requires first { i < edges_in model.now.edges.now }
-    requires second { j < edges_in model.now.edges.now }
-    ensures { T result ↔ Shortcut model.now i j }
-{
-    let edges = model.edges;
-    let name = edge_role(edges, i);
-    if edge_role(edges, j) != name || edge_from(edges, j) != edge_to(edges, i) {
-        return true;
+    // The first role axiom that the model breaks.
+    pub(crate) fn first_broken(&self, role_axioms: &[RoleAxiom]) -> Option<usize>
+        ensures { First (λ i. MeetsRoleAxiom (described self.now.model.now) (slice_index_or role_axioms.now i (Inclusion 0 0))) (length role_axioms.now) result }
+    {
+        role_axioms
+            .iter()
+            .position(|role_axiom| !self.meets(*role_axiom))
     }
-    has_edge(model, name, edge_from(edges, i), edge_to(edges, j))
-}
-
-// Whether an edge, if it is of this role name, has all its shortcuts. The edges that go on from it stand together.
-fn is_shortened(model: &Model, role_name: u16, i: usize) -> bool
-    requires formed { WellFormed model.now }
-    requires listed { i < edges_in model.now.edges.now }
-    ensures { T result ↔ Shortened model.now role_name i }
-{
-    let edges = model.edges;
-    if edge_role(edges, i) != role_name {
-        return true;
-    }
-    let middle = edge_to(edges, i);
-    let start = edges_before(model, rank(role_name, middle, 0));
-    let stop = edges_before(model, rank(role_name, middle, 65535));
-    for j in start..stop {
-        if !has_shortcut(model, i, j) {
-            return false;
-        }
-    }
-    true
-}
-
-// Whether a role is transitive. It is so exactly if its name is.
-fn is_transitive(model: &Model, role: u16) -> bool
-    requires { WellFormed model.now }
-    ensures { T result ↔ IsTransitive (described model.now) role }
-{
-    for i in 0..edges_in(model.edges) {
-        if !is_shortened(model, role / 2, i) {
-            return false;
-        }
-    }
-    true
-}
-
-// Whether the model meets a role axiom.
-fn meets(model: &Model, asked: RoleAxiom) -> bool
-    requires { WellFormed model.now }
-    ensures { T result ↔ MeetsRoleAxiom (described model.now) asked }
-{
-    match asked {
-        RoleAxiom::Inclusion(r, s) => is_included(model, r, s),
-        RoleAxiom::Transitivity(role) => is_transitive(model, role),
-    }
-}
-
-// The first role axiom that the model breaks.
-pub(crate) fn first_broken(model: &Model, asked: &[RoleAxiom]) -> Option<usize>
-    requires { WellFormed model.now }
-    ensures { First (λ i. MeetsRoleAxiom (described model.now) (slice_index_or asked.now i (Inclusion 0 0))) (length asked.now) result }
-{
-    for (i, role_axiom) in asked.iter().enumerate() {
-        if !meets(model, *role_axiom) {
-            return Some(i);
-        }
-    }
-    None
 }

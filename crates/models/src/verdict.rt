@@ -1,90 +1,44 @@
 ghost use Rattle.std.specs.Prelude.{◌≡◌, ◌*◌, ◌<◌, ◌≤◌, min, true, T, ◌↔◌, length, slice_index};
 ghost use Rattle.bits.specs.Bits.{has};
-ghost use Rattle.rows.specs.Rows.{HasRow, contains};
+ghost use Rattle.rows.specs.Rows.{contains};
 ghost use Rattle.models.specs.Firsts.{First};
 ghost use Rattle.models.specs.Evaluation.{RowIsFull};
-ghost use Rattle.models.specs.Judging.{Judgeable, JudgedBy};
 
-use crate::Model;
-use crate::evaluation::evaluate;
-use crate::form::first_flaw;
-use crate::role_axioms::first_broken;
 use bits::has;
-use logic::concept::Concept;
-use logic::role::RoleAxiom;
-use refusals::Refusal;
 use rows::contains;
 
-// Whether row `c` has every element.
-fn holds_of_all(rows: &[u64], c: usize, size: u16) -> bool
-    requires room { HasRow rows.now c }
-    requires few { size ≤ 256 }
-    ensures { T result ↔ RowIsFull rows.now size c }
-{
-    for e in 0..size as usize {
-        if !contains(rows, c, e) {
-            return false;
-        }
-    }
-    true
+// The extensions of the first `count` concepts in a model of `size` elements: row c has the elements of concept c.
+#[derive(Clone, Copy)]
+pub(crate) struct Extensions<'r> {
+    pub(crate) rows: &'r [u64],
+    pub(crate) count: usize,
+    pub(crate) size: u16,
+    ghost room: { 4 * count ≤ length rows.now },
+    ghost few: { size ≤ 256 },
 }
 
-// The first axiom that some element misses.
-fn first_missed(rows: &[u64], count: usize, axioms: &[u16], size: u16) -> Option<usize>
-    requires room { 4 * count ≤ length rows.now }
-    requires few { size ≤ 256 }
-    ensures { First (λ k. (slice_index axioms.now k < count) × RowIsFull rows.now size (slice_index axioms.now k)) (length axioms.now) result }
-{
-    for (k, c) in axioms.iter().enumerate() {
-        if *c as usize >= count || !holds_of_all(rows, *c as usize, size) {
-            return Some(k);
-        }
+impl Extensions<'_> {
+    // Whether row `c` has every element.
+    fn is_full(&self, c: usize) -> bool
+        requires { c < self.now.count }
+        ensures { T result ↔ RowIsFull self.now.rows.now self.now.size c }
+    {
+        (0..self.size as usize).all(|e| contains(self.rows, c, e))
     }
-    None
-}
 
-// The least concept of the label that the point misses.
-fn least_missed(rows: &[u64], count: usize, label: &[u64], point: u16) -> Option<u16>
-    requires room { 4 * count ≤ length rows.now }
-    requires few { point < 256 }
-    ensures { First (λ c. has label.now c ≡ true → T (contains rows.now c point)) (min count 1024) result }
-{
-    for c in 0..count.min(1024) {
-        if has(label, c) && !contains(rows, c, point as usize) {
-            return Some(c as u16);
-        }
+    // The first axiom that some element misses.
+    pub(crate) fn first_missed(&self, axioms: &[u16]) -> Option<usize>
+        ensures { First (λ k. (slice_index axioms.now k < self.now.count) × RowIsFull self.now.rows.now self.now.size (slice_index axioms.now k)) (length axioms.now) result }
+    {
+        axioms.iter().position(|c| *c as usize >= self.count || !self.is_full(*c as usize))
     }
-    None
-}
 
-// Judges the model by role axioms, concepts and axioms. Memory that is too short for the rows is refused here too, so
-// that a call is safe whatever it is given.
-pub(crate) fn judge_by(
-    asked: &[RoleAxiom],
-    concepts: &[Concept],
-    axioms: &[u16],
-    label: &[u64],
-    model: &Model,
-    rows: &mut [u64],
-) -> Result<(), Refusal>
-    ensures { Judgeable concepts.now axioms.now label.now rows.old → JudgedBy asked.now concepts.now axioms.now label.now model.now rows.old rows.new result }
-{
-    if let Some(k) = first_flaw(model) {
-        return Err(Refusal::Model(k));
+    // The least concept of the label that the point misses.
+    pub(crate) fn least_missed(&self, label: &[u64], point: u16) -> Option<u16>
+        requires { point < self.now.size }
+        ensures { First (λ c. has label.now c ≡ true → T (contains self.now.rows.now c point)) (min self.now.count 1024) result }
+    {
+        (0..self.count.min(1024) as u16).find(|c| has(label, *c as usize)
+            && !contains(self.rows, *c as usize, point as usize))
     }
-    if let Some(i) = first_broken(model, asked) {
-        return Err(Refusal::RoleAxiom(i));
-    }
-    let count = concepts.len();
-    if rows.len() / 4 < count {
-        return Err(Refusal::Range(0));
-    }
-    evaluate(rows, concepts, model);
-    if let Some(i) = first_missed(rows, count, axioms, model.size) {
-        return Err(Refusal::Axiom(i));
-    }
-    if let Some(c) = least_missed(rows, count, label, model.point) {
-        return Err(Refusal::Point(c));
-    }
-    Ok(())
 }
