@@ -1,4 +1,5 @@
-ghost use Rattle.std.specs.Prelude.{◌≡◌, ℕ, List, length};
+ghost use Rattle.std.specs.Prelude.{◌≡◌, ℕ, ◌-◌, List, length};
+ghost use Rattle.std.specs.Iterator.{at_most};
 ghost use Rattle.records.specs.Records.{Next};
 ghost use Rattle.records.specs.Files.{Lies, FilesAreTheirRecords};
 
@@ -19,11 +20,17 @@ impl<'f> Reader<'f> {
     {
         Reader { file, at: 0 }
     }
+}
 
-    // The next record; None at the end of the file.
-    pub fn next(&mut self) -> Option<Frame<'f>>
-        ensures { Next self.old self.new result }
-    {
+// The records from here on, malformed ones with them.
+impl<'f> Iterator for Reader<'f> {
+    type Item = Frame<'f>;
+
+    ghost next_gives = { λ r frame s. Next r s frame };
+
+    ghost remaining = { λ r. at_most (length r.file.now - r.at) };
+
+    fn next(&mut self) -> Option<Frame<'f>> {
         let file = self.file;
         let at = self.at;
         if at >= file.len() {
@@ -43,10 +50,5 @@ pub fn count(file: &[u8]) -> usize
     ensures counted { (is : List ℕ) → Lies file.now 0 is → result ≡ length is }
     ensures law { FilesAreTheirRecords }
 {
-    let mut reader = Reader::new(file);
-    let mut n = 0;
-    while let Some(_) = reader.next() {
-        n += 1;
-    }
-    n
+    Reader::new(file).count()
 }
