@@ -3,8 +3,9 @@ ghost use Rattle.std.specs.Iterator.{at_most};
 ghost use Rattle.records.specs.Records.{Next};
 ghost use Rattle.records.specs.Files.{Lies, FilesAreTheirRecords};
 
-use crate::layout::{content, end_of, kind_at};
+use crate::layout::{content, extent, kind_number};
 use crate::record::Frame;
+use refusals::Refusal;
 
 // Reads a dossier file record by record.
 #[derive(Drop)]
@@ -31,16 +32,16 @@ impl<'f> Iterator for Reader<'f> {
     ghost remaining = { λ r. at_most (length r.file.now - r.at) };
 
     fn next(&mut self) -> Option<Frame<'f>> {
-        let file = self.file;
         let at = self.at;
-        if at >= file.len() {
+        if at >= self.file.len() {
             return None;
         }
-        self.at = end_of(file, at);
+        let rest = &self.file[at..];
+        self.at = at + extent(rest);
         Some(Frame {
             offset: at,
-            kind: kind_at(file, at),
-            content: content(file, at),
+            kind: kind_number(rest),
+            content: content(rest).ok_or(Refusal::Malformed(at)),
         })
     }
 }
