@@ -2,7 +2,7 @@
 
 ghost use Rattle.std.specs.Prelude.{◌≤◌, length, IfOk};
 
-use anyhow::anyhow;
+use anyhow::{Context, bail};
 use book::line::{Cited, Line, Step};
 use calculus::rule::Principals;
 use docket::Docket;
@@ -30,12 +30,11 @@ fn fill(input: &mut impl Read, buffer: &mut [u8]) -> io::Result<usize>
     ensures { IfOk result (λ n. n ≤ length buffer.new) }
 {
     let mut filled = 0;
-    for _ in 0..buffer.len() {
-        let more = input.read(&mut buffer[filled..])?;
-        if more == 0 {
-            break;
+    while filled < buffer.len() {
+        match input.read(&mut buffer[filled..])? {
+            0 => break,
+            more => filled += more,
         }
-        filled += more;
     }
     Ok(filled)
 }
@@ -63,18 +62,19 @@ fn run(rt: &HostRuntime) -> anyhow::Result<()> {
         kind: 0,
         answer: Ok(0),
     }; RECORDS];
+    // no `.ok().context(..)?`: the borrow checker does not cover a method that takes an error with several `&mut`
     let Ok(mut docket) = Docket::open(CONCEPTS, LINES, &mut concepts, &mut lines) else {
-        return Err(anyhow!("no docket of these capacities"));
+        bail!("no docket of these capacities");
     };
-    let Ok(count) = take_file(
+    let count = take_file(
         &mut docket,
         &house(),
         &buffer[0..filled],
         &mut rows,
         &mut replies,
-    ) else {
-        return Err(anyhow!("more records than replies"));
-    };
+    )
+    .ok()
+    .context("more records than replies")?;
     for (i, reply) in replies[0..count].iter().enumerate() {
         println!(rt; "{} {}", i + 1, reply)?;
     }

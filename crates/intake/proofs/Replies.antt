@@ -7,7 +7,7 @@ use Rattle.records.specs.declared.record.Frame.{Frame}
 use Rattle.records.specs.declared.record.Record.{Record}
 use Rattle.records.specs.declared.record.Record.TheVariants.{Inclusion, Transitivity, Concept, Pair, Axiom, Seal, Line, Claim, CloseEmpty, CloseInhabited}
 use Rattle.records.specs.Records.{end_of, Next}
-use Rattle.records.proofs.Offsets.{Passed, lies_all, lies_more}
+use Rattle.records.proofs.Offsets.{Passed, lies_all, lies_more, passed_more}
 use Rattle.docket.specs.declared.Docket.{Docket}
 use Rattle.calculus.specs.Calculi.{Calculus, LawfulCalculus}
 use Rattle.docket.specs.Runs.{Lent, Reached, called}
@@ -24,25 +24,11 @@ place_left f n i total passed l has =
     let t = has all.0 all.1 in
     omega (arith, rest.2)
 
-pub room_left : (r s : Reader) (frame : Frame) (f : List ℕ) (n total places : ℕ) → r.file.now ≡ f → Next r s (Some frame) → Passed f n r.at → HasRecords f total
-    → total ≤ places → n < places
-room_left r s frame f n total places same h passed has enough =
-    let l = place_left f n r.at total passed (subst (λ (g : List ℕ). r.at < length g) same h.0) has in omega arith
-
--- what a reader of f has read is the record at its place, and it goes on behind it
-abbrev pub ReadAt : Calculus → Reader → Reader → Frame → List ℕ → Type 0
-ReadAt k r s frame f = (r.at < length f) × (s.file.now ≡ f) × (s.at ≡ end_of f r.at)
-    × ((d e : Docket) (old new : List ℕ) (a : Result ℕ Refusal) → Takes k frame d old a e new → TakesAt k f r.at d old (record { kind = frame.kind; answer = a }) e new)
-
-pub read_at : (k : Calculus) (r s : Reader) (frame : Frame) (f : List ℕ) → r.file.now ≡ f → Next r s (Some frame) → ReadAt k r s frame f
-read_at k r s frame f same h = subst (ReadAt k r s frame) same
-    (h.0, ap (λ x. x.now) h.4, h.5, λ d e old new a t. record { content = frame.content; lies = h.3; kind = h.2; takes = t })
-
 -- what the records up to i have done: whatever the rest replies stands behind the replies so far
 abbrev pub TakenTo : Calculus → List ℕ → ℕ → Docket → List ℕ → List Reply → Docket → List ℕ → Type 0
 TakenTo k f i d old rs m mid = (ss : List Reply) (e : Docket) (new : List ℕ) → Taken k f i m mid ss e new → Taken k f 0 d old (rs ++ ss) e new
 
-pub taken_more : (k : Calculus) (f : List ℕ) (i n : ℕ) (d m m' : Docket) (old mid mid' : List ℕ) (rs : List Reply) (r : Reply) → i < length f → n < length rs
+taken_more : (k : Calculus) (f : List ℕ) (i n : ℕ) (d m m' : Docket) (old mid mid' : List ℕ) (rs : List Reply) (r : Reply) → i < length f → n < length rs
     → TakesAt k f i m mid r m' mid' → TakenTo k f i d old (take n rs) m mid → TakenTo k f (end_of f i) d old (take (n + 1) (set rs n r)) m' mid'
 taken_more k f i n d m m' old mid mid' rs r l h takes before ss e new rest =
     subst (λ (xs : List Reply). Taken k f 0 d old xs e new) (sym (ap (λ (xs : List Reply). xs ++ ss) (take_more_set rs n r h) ∙ append_assoc (take n rs) (r ∷ []) ss))
@@ -52,8 +38,38 @@ pub taken_all : (k : Calculus) (f : List ℕ) (i : ℕ) (d m : Docket) (old mid 
 taken_all k f i d m old mid rs l before = subst (λ (xs : List Reply). Taken k f 0 d old xs m mid) (append-nil rs) (before [] m mid (ended l))
 
 -- the places behind are as they were
-pub untouched_more : (rs old : List Reply) (n : ℕ) (r : Reply) → drop n rs ≡ drop n old → drop (n + 1) (set rs n r) ≡ drop (n + 1) old
+untouched_more : (rs old : List Reply) (n : ℕ) (r : Reply) → drop n rs ≡ drop n old → drop (n + 1) (set rs n r) ≡ drop (n + 1) old
 untouched_more rs old n r e = drop-set-lt (n + 1) rs n r (omega arith) ∙ sym (drop-drop 1 n rs) ∙ ap (drop 1) e ∙ drop-drop 1 n old
+
+-- Reader r of file f has given n records, which took docket d to m and the working rows from old to mid; the replies to them
+-- are written to the places rs, and ss is what the places have now.
+pub record Handed (k : Calculus) (f : List ℕ) (r : Reader) (n : ℕ) (d : Docket) (old : List ℕ) (rs : List Reply) (m : Docket) (mid : List ℕ) (ss : List Reply) : Type 0 where
+  pub file : r.file.now ≡ f
+  pub passed : Passed f n r.at
+  pub taken : TakenTo k f r.at d old (take n ss) m mid
+  pub behind : drop n ss ≡ drop n rs
+
+-- as long as it gives records, there is a place for the reply
+pub handed_room : {k : Calculus} {f : List ℕ} {r s : Reader} {n total : ℕ} {d m : Docket} {old mid : List ℕ} {rs ss : List Reply} (frame : Frame)
+    → Handed k f r n d old rs m mid ss → Next r s (Some frame) → HasRecords f total → total ≤ length ss → n < length ss
+handed_room {f = f} {r = r} {n = n} {total = total} frame h gave has enough =
+    let left = place_left f n r.at total h.passed (rw (sym h.file) gave.0) has in omega arith
+
+-- one more is handed over
+pub handed_more : {k : Calculus} {f : List ℕ} {r s : Reader} {n : ℕ} {d m e : Docket} {old mid new : List ℕ} {rs ss : List Reply} (frame : Frame) (a : Result ℕ Refusal)
+    → Handed k f r n d old rs m mid ss → Next r s (Some frame) → n < length ss → Takes k frame m mid a e new
+    → Handed k f s (n + 1) d old rs e new (set ss n (record { kind = frame.kind; answer = a }))
+handed_more {k} {f} {r} {s} {n} {d} {m} {e} {old} {mid} {new} {rs} {ss} frame a h (below, offset, kind, content, file, at) room takes =
+    let inside : r.at < length f = rw (sym h.file) below in
+    let reply : Reply = record { kind = frame.kind; answer = a } in
+    let there : TakesAt k f r.at m mid reply e new = record { content = frame.content; lies = rw (sym h.file) content; kind = rw (sym h.file) kind; takes = takes } in
+    let end : s.at ≡ end_of f r.at = at ∙ ap (λ g. end_of g r.at) h.file in
+    record {
+      file = ap (λ x. x.now) file ∙ h.file;
+      passed = rw end (passed_more f n r.at inside h.passed);
+      taken = rw end (taken_more k f r.at n d m e old mid new ss reply inside room there h.taken);
+      behind = untouched_more ss rs n reply h.behind;
+    }
 
 -- the bank that is lent to a record's call shows the law
 lent : (k : Calculus) → LawfulCalculus k → (old new : List ℕ) (x : Record) → Lent (call_of k old new x)

@@ -27,8 +27,7 @@ pub struct Reply {
 pub fn take<B: Bank>(docket: &mut Docket, bank: &B, frame: &Frame, rows: &mut [u64]) -> Answer
     ensures { Takes (B.Bank.calculus bank.now) frame.now docket.old rows.old result docket.new rows.new }
 {
-    let well_formed = frame.content?;
-    match well_formed {
+    match frame.content? {
         Record::Inclusion { body } => docket.file_inclusion(field(body, 0), field(body, 1)),
         Record::Transitivity { body } => docket.file_transitivity(field(body, 0)),
         Record::Concept { body } => docket.file_concept(
@@ -84,17 +83,15 @@ pub fn take_file<B: Bank>(
     ensures reached { Reached docket.old → Reached docket.new }
     ensures facts { ThreeFacts }
 {
-    if replies.len() < count(file) {
+    let total = count(file);
+    if replies.len() < total {
         return Err(Refusal::Range(1));
     }
-    let mut reader = Reader::new(file);
-    let mut n = 0;
-    while let Some(frame) = reader.next() {
-        replies[n] = Reply {
+    for (i, frame) in Reader::new(file).enumerate() {
+        replies[i] = Reply {
             kind: frame.kind,
             answer: take(docket, bank, &frame, rows),
         };
-        n += 1;
     }
-    Ok(n)
+    Ok(total)
 }

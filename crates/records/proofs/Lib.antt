@@ -1,1 +1,4 @@
 pub mod Offsets
+pub mod Reading
+pub mod Rest
+pub mod Bodies

@@ -1,77 +1,55 @@
-ghost use Rattle.std.specs.Prelude.{◌≡◌, ◌<◌, length};
-ghost use Rattle.records.specs.Records.{kind_at, end_of, Content};
+ghost use Rattle.std.specs.Prelude.{◌≡◌, MatchOption};
+ghost use Rattle.records.specs.declared.record.Record.{Record};
+ghost use Rattle.records.specs.Records.{kind_at, end_of, Stands};
 
+use crate::kind::Kind;
 use crate::record::Record;
-use file_bytes::{cut, word};
-use refusals::Refusal;
+use file_bytes::{field, word};
 
-// The kind of the record at this place; 0 if its head is cut off.
-pub(crate) fn kind_at(file: &[u8], at: usize) -> u16
-    requires { at < length file.now }
-    ensures { result ≡ kind_at file.now at }
+// In this file `rest` is what is left of a file from the first byte of a record on.
+
+// The number of the record's kind; 0 if its head is cut off.
+pub(crate) fn kind_number(rest: &[u8]) -> u16
+    ensures { result ≡ kind_at rest.now 0 }
 {
-    if file.len() - at < 4 {
-        0
-    } else {
-        word(file, at + 2)
-    }
+    if rest.len() < 4 { 0 } else { word(rest, 2) }
 }
 
-// Where the record at this place ends.
-pub(crate) fn end_of(file: &[u8], at: usize) -> usize
-    requires { at < length file.now }
-    ensures { result ≡ end_of file.now at }
+// How many bytes the record has, or how many are left if it is cut off.
+pub(crate) fn extent(rest: &[u8]) -> usize
+    ensures { result ≡ end_of rest.now 0 }
 {
-    (at + 4 + word(file, at) as usize).min(file.len())
+    (4 + word(rest, 0) as usize).min(rest.len())
 }
 
-// The record at this place. One that is cut off, has an unknown kind or a length that its kind can't have is malformed.
-pub(crate) fn content<'f>(file: &'f [u8], at: usize) -> Result<Record<'f>, Refusal>
-    requires { at < length file.now }
-    ensures { Content file.now at result }
+// The record, unless it is malformed: cut off, of an unknown kind, or of a length that its kind can't have.
+pub(crate) fn content(rest: &[u8]) -> Option<Record<'_>>
+    ensures { MatchOption result ((x : Record) → Stands rest.now 0 x → ⊥) (Stands rest.now 0) }
 {
-    let kind = kind_at(file, at);
-    let size = word(file, at) as usize;
-    let malformed = Err(Refusal::Malformed(at));
-    if file.len() - at < 4 + size {
-        return malformed;
+    let kind = Kind::try_from(kind_number(rest)).ok()?;
+    let size = word(rest, 0) as usize;
+    if !kind.can_have(size) {
+        return None;
     }
-    let start = at + 4;
+    let body = rest.get(4..4 + size)?;
     match kind {
-        1 if size == 4 => Ok(Record::Inclusion {
-            body: cut(file, start, 4),
-        }),
-        2 if size == 2 => Ok(Record::Transitivity {
-            body: cut(file, start, 2),
-        }),
-        3 if size == 6 => Ok(Record::Concept {
-            body: cut(file, start, 6),
-        }),
-        4 if size == 4 => Ok(Record::Pair {
-            body: cut(file, start, 4),
-        }),
-        5 if size == 2 => Ok(Record::Axiom {
-            body: cut(file, start, 2),
-        }),
-        6 if size == 0 => Ok(Record::Seal),
-        7 if size >= 12 && size % 2 == 0 => Ok(Record::Line {
-            body: cut(file, start, 12),
-            members: cut(file, start + 12, size - 12),
-        }),
-        8 if size % 2 == 0 => Ok(Record::Claim {
-            members: cut(file, start, size),
-        }),
-        9 if size == 4 => Ok(Record::CloseEmpty {
-            body: cut(file, start, 4),
-        }),
-        10 if size >= 8 && size % 2 == 0 => {
-            let marks = (4 * word(file, start + 6) as usize).min(size - 8);
-            Ok(Record::CloseInhabited {
-                body: cut(file, start, 8),
-                marks: cut(file, start + 8, marks),
-                edges: cut(file, start + 8 + marks, size - 8 - marks),
-            })
+        Kind::Inclusion => Some(Record::Inclusion { body }),
+        Kind::Transitivity => Some(Record::Transitivity { body }),
+        Kind::Concept => Some(Record::Concept { body }),
+        Kind::Pair => Some(Record::Pair { body }),
+        Kind::Axiom => Some(Record::Axiom { body }),
+        Kind::Seal => Some(Record::Seal),
+        Kind::Line => {
+            let (body, members) = body.split_at(12);
+            Some(Record::Line { body, members })
         }
-        _ => malformed,
+        Kind::Claim => Some(Record::Claim { members: body }),
+        Kind::CloseEmpty => Some(Record::CloseEmpty { body }),
+        Kind::CloseInhabited => {
+            let (body, lists) = body.split_at(8);
+            let marks = 4 * field(body, 3) as usize;
+            let (marks, edges) = lists.split_at(marks.min(lists.len()));
+            Some(Record::CloseInhabited { body, marks, edges })
+        }
     }
 }

@@ -1,5 +1,6 @@
 #![tactic(auto)]
 
+pub mod kind;
 mod layout;
 pub mod reader;
 pub mod record;

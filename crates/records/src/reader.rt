@@ -1,9 +1,11 @@
-ghost use Rattle.std.specs.Prelude.{◌≡◌, ℕ, List, length};
+ghost use Rattle.std.specs.Prelude.{◌≡◌, ℕ, ◌-◌, List, length};
+ghost use Rattle.std.specs.Iterator.{at_most};
 ghost use Rattle.records.specs.Records.{Next};
 ghost use Rattle.records.specs.Files.{Lies, FilesAreTheirRecords};
 
-use crate::layout::{content, end_of, kind_at};
+use crate::layout::{content, extent, kind_number};
 use crate::record::Frame;
+use refusals::Refusal;
 
 // Reads a dossier file record by record.
 #[derive(Drop)]
@@ -19,21 +21,27 @@ impl<'f> Reader<'f> {
     {
         Reader { file, at: 0 }
     }
+}
 
-    // The next record; None at the end of the file.
-    pub fn next(&mut self) -> Option<Frame<'f>>
-        ensures { Next self.old self.new result }
-    {
-        let file = self.file;
+// The records from here on, malformed ones with them.
+impl<'f> Iterator for Reader<'f> {
+    type Item = Frame<'f>;
+
+    ghost next_gives = { λ r frame s. Next r s frame };
+
+    ghost remaining = { λ r. at_most (length r.file.now - r.at) };
+
+    fn next(&mut self) -> Option<Frame<'f>> {
         let at = self.at;
-        if at >= file.len() {
+        if at >= self.file.len() {
             return None;
         }
-        self.at = end_of(file, at);
+        let rest = &self.file[at..];
+        self.at = at + extent(rest);
         Some(Frame {
             offset: at,
-            kind: kind_at(file, at),
-            content: content(file, at),
+            kind: kind_number(rest),
+            content: content(rest).ok_or(Refusal::Malformed(at)),
         })
     }
 }
@@ -43,10 +51,5 @@ pub fn count(file: &[u8]) -> usize
     ensures counted { (is : List ℕ) → Lies file.now 0 is → result ≡ length is }
     ensures law { FilesAreTheirRecords }
 {
-    let mut reader = Reader::new(file);
-    let mut n = 0;
-    while let Some(_) = reader.next() {
-        n += 1;
-    }
-    n
+    Reader::new(file).count()
 }

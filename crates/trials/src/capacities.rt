@@ -1,6 +1,5 @@
-use crate::desk::{blank, opened, told};
+use crate::desk::{blank, opened, opened_for, told};
 use book::line::Line;
-use docket::Docket;
 use logic::concept::Concept;
 use std::process::Abort;
 use std::test::Fail;
@@ -67,9 +66,7 @@ fn takes(
     memory: &mut [Concept],
     lines: &mut [Line],
 ) -> Result<(), Fail> {
-    let Ok(mut docket) = Docket::open(capacity as usize, 1, memory, lines) else {
-        return Err(Fail::new("the docket was not opened"));
-    };
+    let mut docket = opened_for(capacity as usize, 1, memory, lines)?;
     for c in 0..capacity {
         assert_eq!(rt; told(docket.file_concept(2, c, 0)), Ok(c as usize));
     }

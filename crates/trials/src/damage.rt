@@ -1,5 +1,5 @@
-use crate::desk::{blank, hand_over, opened, told};
-use crate::files::{MALFORMED, UNTOUCHED, file, record};
+use crate::desk::{blank, hand_over, opened, replied, told};
+use crate::files::{MALFORMED, RECORDS, Row, UNTOUCHED, file};
 use intake::Reply;
 use logic::concept::Concept;
 use std::alloc::Global;
@@ -20,59 +20,53 @@ fn with_record(
     longer.extend_from_slice(&whole[0..from])?;
     longer.extend_from_slice(&size.to_le_bytes())?;
     longer.extend_from_slice(&kind.to_le_bytes())?;
-    for _ in 0..size {
-        longer.push(0)?;
-    }
+    longer.resize(from + 4 + size as usize, 0)?;
     longer.extend_from_slice(&whole[from..110])?;
     Ok(longer)
 }
 
-// The record number `at`, of this length and kind, is malformed; before and behind it all is as ever.
-fn as_damaged(rt: &impl Abort, i: usize, at: usize, wrong: (u16, u16), reply: &Reply) {
-    let (size, kind) = wrong;
-    if i == at {
-        let (from, _, _, _) = record(rt, at);
-        assert_eq!(rt; reply.kind, kind, "kind {kind} of {size} at {from}");
-        assert_eq!(rt;
-            told(reply.answer),
-            Err((MALFORMED, from)),
-            "kind {kind} of {size} at {from}"
-        );
-        return;
-    }
-    let (_, _, own, said) = record(rt, if i < at { i } else { i - 1 });
+// A record before or behind the one that is damaged is answered as ever.
+fn as_ever(rt: &impl Abort, record: &Row, reply: &Reply, (size, wrong): (u16, u16)) {
+    let (from, _, kind, said) = *record;
     assert_eq!(rt;
-        reply.kind,
-        own,
-        "record {i} with kind {kind} of {size} before {at}"
-    );
-    assert_eq!(rt;
-        told(reply.answer),
-        said,
-        "record {i} with kind {kind} of {size} before {at}"
+        replied(reply),
+        (kind, said),
+        "record at {from}, with kind {wrong} of {size} besides"
     );
 }
 
-fn read_past(rt: &impl Abort, file: &[u8], at: usize, wrong: (u16, u16)) -> Result<(), Fail> {
+// The record that was put before record number `at`, of this length and kind, is malformed.
+fn read_past(rt: &impl Abort, file: &[u8], at: usize, damage: (u16, u16)) -> Result<(), Fail> {
     let mut memory = [Concept::Top; 3];
     let mut lines = [blank(); 1];
     let mut docket = opened(&mut memory, &mut lines)?;
     let mut replies = [UNTOUCHED; 14];
     assert_eq!(rt; told(hand_over(&mut docket, file, &mut replies)), Ok(14));
-    for (i, reply) in replies.iter().enumerate() {
-        as_damaged(rt, i, at, wrong, reply);
+    assert!(rt; at < 13);
+    for (record, reply) in RECORDS[..at].iter().zip(&replies[..at]) {
+        as_ever(rt, record, reply, damage);
+    }
+    let (from, _, _, _) = RECORDS[at];
+    let (size, kind) = damage;
+    assert_eq!(rt;
+        replied(&replies[at]),
+        (kind, Err((MALFORMED, from))),
+        "kind {kind} of {size} at {from}"
+    );
+    for (record, reply) in RECORDS[at..].iter().zip(&replies[at + 1..]) {
+        as_ever(rt, record, reply, damage);
     }
     Ok(())
 }
 
 // Before a record one that is like it but for its length or its kind.
-fn all_damages(rt: &impl Abort, heap: Global, at: usize) -> Result<(), Fail> {
-    let (from, end, kind, _) = record(rt, at);
+fn all_damages(rt: &impl Abort, heap: Global, at: usize, record: &Row) -> Result<(), Fail> {
+    let (from, end, kind, _) = *record;
     assert!(rt; from <= 106);
     assert!(rt; from + 4 <= end && end <= 110);
     let size = (end - from - 4) as u16;
     // lines, claims and models can have every even length
-    let wrong = if kind == 7 || kind == 8 || kind == 10 {
+    let wrong = if matches!(kind, 7 | 8 | 10) {
         size + 3
     } else {
         size + 2
@@ -95,8 +89,8 @@ fn all_damages(rt: &impl Abort, heap: Global, at: usize) -> Result<(), Fail> {
 
 #[test]
 fn damaged(rt: HostRuntime) -> Result<(), Fail> {
-    for at in 0..13 {
-        all_damages(&rt, rt.alloc(), at)?;
+    for (at, record) in RECORDS.iter().enumerate() {
+        all_damages(&rt, rt.alloc(), at, record)?;
     }
     Ok(())
 }

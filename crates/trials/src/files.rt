@@ -1,4 +1,4 @@
-use crate::desk::{Said, blank, hand_over, opened, told};
+use crate::desk::{Said, blank, hand_over, opened, replied, told};
 use intake::Reply;
 use logic::concept::Concept;
 use records::reader::count;
@@ -15,8 +15,7 @@ pub const UNTOUCHED: Reply = Reply {
 
 // Nothing was written to this place, in turn `n` of the test.
 pub fn is_untouched(rt: &impl Abort, n: usize, reply: &Reply) {
-    assert_eq!(rt; reply.kind, 999, "turn {n}");
-    assert_eq!(rt; told(reply.answer), Ok(999), "turn {n}");
+    assert_eq!(rt; replied(reply), (999, Ok(999)), "turn {n}");
 }
 
 // The records of the table below, one to a line.
@@ -37,8 +36,11 @@ pub fn file() -> [u8; 110] {
         \x02\0\x05\0\0\0"
 }
 
-// A record of each kind and a few more: where each begins and ends, its kind, and what is answered to it.
-const RECORDS: [(usize, usize, u16, Said<usize>); 13] = [
+// Where a record begins and ends, its kind, and what is answered to it.
+pub type Row = (usize, usize, u16, Said<usize>);
+
+// A record of each kind and a few more.
+pub const RECORDS: [Row; 13] = [
     // role 0 below role 2; role 2 transitive
     (0, 8, 1, Ok(0)),
     (8, 14, 2, Ok(1)),
@@ -60,42 +62,26 @@ const RECORDS: [(usize, usize, u16, Said<usize>); 13] = [
     (104, 110, 5, Err((2, 0))),
 ];
 
-pub fn record(rt: &impl Abort, i: usize) -> (usize, usize, u16, Said<usize>) {
-    assert!(rt; i < 13);
-    RECORDS[i]
-}
-
-// How many records begin before place `n`.
-fn begun_before(rt: &impl Abort, n: usize) -> usize {
-    let mut begun = 0;
-    for i in 0..13 {
-        let (from, _, _, _) = record(rt, i);
-        if from < n {
-            begun = i + 1;
-        }
-    }
-    begun
-}
-
-// The reply to record `i`, where the file ends at place `n`: one that is whole is answered as ever, and one that is cut is
+// The reply to a record, where the file ends at place `n`: one that is whole is answered as ever, and one that is cut is
 // malformed. The kind is in the third and fourth bytes.
-fn as_cut(rt: &impl Abort, i: usize, n: usize, reply: &Reply) {
-    let (from, end, kind, said) = record(rt, i);
-    if end <= n {
-        assert_eq!(rt; reply.kind, kind, "record {i}, cut to {n} bytes");
-        assert_eq!(rt; told(reply.answer), said, "record {i}, cut to {n} bytes");
-        return;
-    }
+fn as_cut(rt: &impl Abort, n: usize, record: &Row, reply: &Reply) {
+    let (from, end, kind, said) = *record;
     if from >= n {
         is_untouched(rt, n, reply);
         return;
     }
-    let seen = if n - from < 4 { 0 } else { kind };
-    assert_eq!(rt; reply.kind, seen, "record {i}, cut to {n} bytes");
+    let malformed = Err((MALFORMED, from));
+    let as_said = if end <= n {
+        (kind, said)
+    } else if n - from < 4 {
+        (0, malformed)
+    } else {
+        (kind, malformed)
+    };
     assert_eq!(rt;
-        told(reply.answer),
-        Err((MALFORMED, from)),
-        "record {i}, cut to {n} bytes"
+        replied(reply),
+        as_said,
+        "record at {from}, cut to {n} bytes"
     );
 }
 
@@ -106,15 +92,15 @@ fn cut_to(rt: &impl Abort, n: usize) -> Result<(), Fail> {
     let mut docket = opened(&mut memory, &mut lines)?;
     let mut replies = [UNTOUCHED; 14];
     let whole = file();
-    let begun = begun_before(rt, n);
+    let begun = RECORDS.iter().filter(|(from, _, _, _)| *from < n).count();
     assert_eq!(rt; count(&whole[0..n]), begun, "cut to {n} bytes");
     assert_eq!(rt;
         told(hand_over(&mut docket, &whole[0..n], &mut replies)),
         Ok(begun),
         "cut to {n} bytes"
     );
-    for (i, reply) in replies[0..13].iter().enumerate() {
-        as_cut(rt, i, n, reply);
+    for (record, reply) in RECORDS.iter().zip(&replies) {
+        as_cut(rt, n, record, reply);
     }
     is_untouched(rt, n, &replies[13]);
     Ok(())

@@ -103,8 +103,16 @@ fn few_inclusions(rt: HostRuntime) -> Result<(), Fail> {
     )
 }
 
+// The order in which the links of a chain are filed: from the first on, from the last on, or every other one first.
+#[derive(Clone, Copy, Debug)]
+enum Order {
+    Forward,
+    Backward,
+    EveryOther,
+}
+
 // Every pair of roles, where each of the first `names` names is below the next one, or below its inverse with `twist`.
-fn chained(rt: &impl Abort, docket: &Docket, names: u16, order: u8, twist: bool) {
+fn chained(rt: &impl Abort, docket: &Docket, names: u16, order: Order, twist: bool) {
     for r in 0..128u16 {
         for s in 0..128u16 {
             let (i, j) = (r / 2, s / 2);
@@ -115,30 +123,25 @@ fn chained(rt: &impl Abort, docket: &Docket, names: u16, order: u8, twist: bool)
             assert_eq!(rt;
                 told(docket.is_below(r, s)),
                 Ok(said),
-                "below {r} {s} of {names} names in order {order}, twist: {twist}"
+                "below {r} {s} of {names} names in order {order:?}, twist: {twist}"
             );
         }
     }
 }
 
-// The link that is filed as number `i` of so many: from the first on, from the last on, or every other one first.
-fn link(rt: &impl Abort, order: u8, i: u16, links: u16) -> u16 {
+// The link that is filed as number `i` of so many.
+fn link(rt: &impl Abort, order: Order, i: u16, links: u16) -> u16 {
     assert!(rt; i < links && links < 64);
     match order {
-        0 => i,
-        1 => links - 1 - i,
-        _ => {
-            if 2 * i < links {
-                2 * i
-            } else {
-                2 * i + 1 - links - links % 2
-            }
-        }
+        Order::Forward => i,
+        Order::Backward => links - 1 - i,
+        Order::EveryOther if 2 * i < links => 2 * i,
+        Order::EveryOther => 2 * i + 1 - links - links % 2,
     }
 }
 
 // Files such a chain, its links in this order.
-fn chain(rt: &impl Abort, names: u16, order: u8, twist: bool) -> Result<(), Fail> {
+fn chain(rt: &impl Abort, names: u16, order: Order, twist: bool) -> Result<(), Fail> {
     let mut memory = [Concept::Top; 1];
     let mut lines = [blank(); 1];
     let mut docket = opened(&mut memory, &mut lines)?;
@@ -158,7 +161,7 @@ fn chain(rt: &impl Abort, names: u16, order: u8, twist: bool) -> Result<(), Fail
 #[test]
 fn long_chains(rt: HostRuntime) -> Result<(), Fail> {
     for names in [63, 64] {
-        for order in 0..3 {
+        for order in [Order::Forward, Order::Backward, Order::EveryOther] {
             for twist in [false, true] {
                 chain(&rt, names, order, twist)?;
             }

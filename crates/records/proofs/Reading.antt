@@ -1,0 +1,29 @@
+-- What a reader gives.
+use Rattle.std.proofs.Common.{◌≡◌, ℕ, ◌≤◌, List, [], ◌∷◌, length, map, Some, sym, subst, ap, ◌∙◌}
+use Rattle.std.proofs.lemmas.List.{length-map}
+use Rattle.std.specs.Iterator.{Drains}
+use Rattle.records.specs.declared.reader.Reader.{Reader}
+use Rattle.records.specs.declared.record.Frame.{Frame}
+use Rattle.records.specs.Records.{Next}
+use Rattle.records.specs.Files.{Lies, ended, behind}
+use Rattle.records.proofs.Offsets.{lies_only}
+
+-- where frames begin
+abbrev pub offsets : List Frame → List ℕ
+offsets frames = map (λ frame. frame.offset) frames
+
+-- the frames that a reader gives before it ends
+abbrev pub Given : Reader → List Frame → Type 0
+Given r frames = Drains (λ r frame s. Next r s frame) r frames
+
+-- a frame before the others
+one_frame : (r s : Reader) (frame : Frame) (is : List ℕ) → Next r s (Some frame) → Lies s.file.now s.at is → Lies r.file.now r.at (frame.offset ∷ is)
+one_frame r s frame is (below, offset, kind, content, file, at) rest = rw offset (behind {is = is} below (rw (sym at, sym file) rest))
+
+-- they are the records from the reader's place on
+pub given_lie : (r : Reader) (frames : List Frame) → Given r frames → Lies r.file.now r.at (offsets frames)
+given_lie r [] (u, (t, same, (past, end))) = ended (subst (λ (x : Reader). length x.file.now ≤ x.at) (sym same) past)
+given_lie r (frame ∷ frames) (u, (t, (s, step, run), last)) = one_frame r s frame (offsets frames) step (given_lie s frames (u, (t, run, last)))
+
+pub given_count : (r : Reader) (frames : List Frame) (is : List ℕ) → Given r frames → Lies r.file.now r.at is → length frames ≡ length is
+given_count r frames is given lies = sym (length-map frames _) ∙ ap length (lies_only r.file.now r.at is (offsets frames) lies (given_lie r frames given))
