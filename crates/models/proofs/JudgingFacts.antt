@@ -13,12 +13,12 @@ use Rattle.logic.specs.Meaning.{LiesIn, HoldsOfAll, Meets}
 use Rattle.vocabulary.specs.declared.Vocabulary.{Vocabulary}
 use Rattle.vocabulary.specs.Roles.{role_axioms}
 use Rattle.vocabulary.specs.Vocabularies.{concepts, axioms}
-use Rattle.vocabulary.specs.Keeping.{Kept}
+use Rattle.vocabulary.specs.Keeping.{Kept, AxiomsStand}
 use Rattle.models.specs.declared.Model.{Model}
 use Rattle.models.specs.Firsts.{First}
 use Rattle.models.specs.Models.{WellFormed, described}
 use Rattle.models.specs.Evaluation.{Evaluated, RowIsFull}
-use Rattle.models.specs.Judging.{LabelStands, Judgeable, PointLiesIn, AxiomMissed, PointMissed, Satisfied}
+use Rattle.models.specs.Judging.{LabelStands, PointLiesIn, AxiomMissed, PointMissed, Satisfied}
 use Rattle.models.proofs.FirstFacts.{first_map}
 use Rattle.models.proofs.PairFacts.{element, in_range}
 
@@ -37,6 +37,14 @@ member_at d (x ∷ xs) (suc k) h = Memᴰ.tail (member_at d xs k (omega arith))
 pub failed_member : (b : Bool) (X : Type 0) → ((b ≡ true → X) → ⊥) → b ≡ true
 failed_member true X f = refl
 failed_member false X f = absurd (f (λ e. absurd (subst (λ b. T b) (sym e) tt)))
+
+-- what the lists and the memory have to be
+pub record Judgeable (cs : List Concept) (listed label rows : List ℕ) : Type 0 where
+  pub ordered : Ordered parts cs
+  pub few : length cs ≤ 1024
+  pub axioms_stand : AxiomsStand cs listed
+  pub label_stands : LabelStands cs label
+  pub room : 4 * length cs ≤ length rows
 
 -- What the search for a missed axiom and for a missed concept of the label says, once the rows are evaluated.
 module _ (m : Model) (formed : WellFormed m) (roles : List RoleAxiom) (cs : List Concept) (listed label old new : List ℕ) (j : Judgeable cs listed label old)

@@ -1,19 +1,16 @@
 -- What the judgement of a model says.
-use Rattle.std.specs.Prelude.{◌≡◌, ℕ, ◌*◌, ◌<◌, ◌≤◌, true, List, length, Some, Ok, Err, Result, slice_index, slice_index_or}
+use Rattle.std.specs.Prelude.{◌≡◌, ℕ, ◌<◌, true, List, length, Some, Ok, Err, Result, slice_index, slice_index_or}
 use Rattle.refusals.specs.declared.Refusal.{Refusal}
 use Rattle.refusals.specs.declared.Refusal.TheVariants.{Malformed, Phase, Range, Absent, Full, Order, Unpaired, Inapplicable, Unlicensed, Closed, Outside, Model as WrongModel, RoleAxiom as BrokenRoleAxiom, Axiom as MissedAxiom, Point as MissedByPoint}
-use Rattle.register.specs.References.{Ordered}
 use Rattle.bits.specs.Bits.{has}
 use Rattle.logic.specs.declared.concept.Concept.{Concept}
 use Rattle.logic.specs.declared.role.RoleAxiom.{RoleAxiom}
 use Rattle.logic.specs.declared.role.RoleAxiom.TheVariants.{Inclusion}
 use Rattle.logic.specs.Interpretations.{Interpretation, MeetsRoleAxiom, MeetsRoleAxioms}
-use Rattle.logic.specs.Concepts.{parts}
 use Rattle.logic.specs.Meaning.{LiesIn, HoldsOfAll, Meets}
 use Rattle.vocabulary.specs.declared.Vocabulary.{Vocabulary}
 use Rattle.vocabulary.specs.Roles.{role_axioms}
 use Rattle.vocabulary.specs.Vocabularies.{concepts, axioms}
-use Rattle.vocabulary.specs.Keeping.{AxiomsStand}
 use Rattle.models.specs.declared.Model.{Model}
 use Rattle.models.specs.Firsts.{First}
 use Rattle.models.specs.Models.{WellFormed, FirstFlaw, described}
@@ -22,14 +19,6 @@ use Rattle.models.specs.Evaluation.{Evaluated}
 -- every concept of the label stands
 abbrev pub LabelStands : List Concept → List ℕ → Type 0
 LabelStands cs label = (c : ℕ) → has label c ≡ true → c < length cs
-
--- what the lists and the memory have to be
-pub record Judgeable (cs : List Concept) (listed label rows : List ℕ) : Type 0 where
-  pub ordered : Ordered parts cs
-  pub few : length cs ≤ 1024
-  pub axioms_stand : AxiomsStand cs listed
-  pub label_stands : LabelStands cs label
-  pub room : 4 * length cs ≤ length rows
 
 -- the point p lies in concept c, if the label has it
 abbrev pub PointLiesIn : Interpretation → List Concept → List ℕ → ℕ → ℕ → Type 0

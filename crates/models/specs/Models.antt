@@ -34,11 +34,6 @@ pub data FirstFlaw (m : Model) : ℕ → Type 0 where
   bad_mark : {i : ℕ} → Sized m → FirstBadMark m (Some i) → FirstFlaw m (1 + i)
   bad_edge : {i : ℕ} → Sized m → FirstBadMark m None → FirstBadEdge m (Some i) → FirstFlaw m (1 + m.mark_count + i)
 
--- the first flaw, if any
-abbrev pub Flaw : Model → Option ℕ → Type 0
-Flaw m None = WellFormed m
-Flaw m (Some k) = FirstFlaw m k
-
 -- The interpretation that a model describes: its elements are numbered from 0, an element is in a name exactly if the
 -- mark is listed, and a role name leads from one to another exactly if the edge is.
 abbrev pub described : Model → Interpretation
