@@ -16,7 +16,7 @@ use records::reader::{Reader, count};
 use records::record::{Frame, Record};
 use refusals::Refusal;
 
-// What a docket answered to a record of this kind.
+// What a docket answered to a record of this kind, a number as the frame has it.
 #[derive(Clone, Copy)]
 pub struct Reply {
     pub kind: u16,
@@ -87,6 +87,7 @@ pub fn take_file<B: Bank>(
     if replies.len() < total {
         return Err(Refusal::Range(1));
     }
+    // not zipped with `replies.iter_mut()`: of what is written through an adapter of it no proof knows anything
     for (i, frame) in Reader::new(file).enumerate() {
         replies[i] = Reply {
             kind: frame.kind,
