@@ -78,7 +78,7 @@ fn outside_conclusion<B: Bank>(
     first_outside(y, &row)
 }
 
-// The label of a line; the empty one if there is no such line.
+// The label of a line; the empty one if there is no such line, of which a draft's rows have been asked before.
 pub fn label_of(lines: &[Line], k: u16) -> [u64; 16]
     ensures { result ≡ label_of lines.now k }
 {

@@ -5,8 +5,9 @@ use calculus::rule::Principals;
 use register::entry::Entry;
 
 // The lines that a step cites, in the order of its rule's conclusions.
-#[derive(Clone, Copy)]
+#[derive(Clone, Copy, Default)]
 pub enum Cited {
+    #[default]
     Nothing,
     One(u16),
     Two(u16, u16),
@@ -26,7 +27,7 @@ impl Cited {
 }
 
 // One step of a tableau: a rule, the concepts that it names, and the lines that it cites.
-#[derive(Clone, Copy)]
+#[derive(Clone, Copy, Default)]
 pub struct Step {
     pub rule: u16,
     pub on: Principals,
@@ -34,7 +35,7 @@ pub struct Step {
 }
 
 // A line of the book: a label, as a row with a bit for each concept, and the step by which no element has all of it.
-#[derive(Clone, Copy)]
+#[derive(Clone, Copy, Default)]
 pub struct Line {
     pub step: Step,
     pub label: [u64; 16],

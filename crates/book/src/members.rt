@@ -23,6 +23,7 @@ pub fn check_stands(number: u16, count: usize, position: u8) -> Result<(), Refus
 pub fn check_standing(members: &[u8], count: usize, from: u8) -> Result<(), Refusal>
     ensures { Passed (with (λ i. Absent (i + from)) (absent_at count (numbers members.now)) ∷ []) result }
 {
+    // what is found is the error, and std leads from `Some` to `Err` by a match alone
     match first_absent(members, count) {
         Some(i) => Err(Refusal::Absent(i + from as usize)),
         None => Ok(()),
@@ -33,6 +34,7 @@ pub fn check_standing(members: &[u8], count: usize, from: u8) -> Result<(), Refu
 pub fn check_rising(members: &[u8], from: u8) -> Result<(), Refusal>
     ensures { Passed (with (λ i. Order (i + from)) (falling_at (numbers members.now)) ∷ []) result }
 {
+    // as above
     match first_falling(members) {
         Some(i) => Err(Refusal::Order(i + from as usize)),
         None => Ok(()),

@@ -60,7 +60,8 @@ impl<R: Rule> Bank for Single<R> {
     }
 }
 
-// Two banks side by side.
+// Two banks side by side. Each question asks the side that has the rule: the two have types of their own, so that no
+// reference to the one that answers can be taken once for all.
 #[derive(Default, Drop)]
 pub struct Pair<L, R> {
     pub left: L,

@@ -9,7 +9,7 @@ use bits;
 use labels::rows::next_from;
 
 // The concepts that a step names, by number; one that its rule doesn't use is 0.
-#[derive(Clone, Copy)]
+#[derive(Clone, Copy, Debug, Default, PartialEq, Eq)]
 pub struct Principals {
     pub p: u16,
     pub q: u16,

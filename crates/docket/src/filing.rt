@@ -77,6 +77,7 @@ impl<'a> Docket<'a> {
         self.enter(Kind::Pair)?;
         check_stands(c, self.vocabulary.len(), 0)?;
         check_stands(d, self.vocabulary.len(), 1)?;
+        // by a match: the call answers 0, and not what pairing gives
         match self.vocabulary.pair(c, d) {
             Some(()) => Ok(0),
             None => Err(Refusal::Unpaired),
@@ -114,6 +115,7 @@ impl<'a> Docket<'a> {
             self.book.room(),
             draft,
         )?;
+        // by a match: a line that was checked always fits, and the arm of the error is where that is shown
         match self.book.push(line) {
             Ok(number) => Ok(number),
             Err(_) => Err(Refusal::Full(self.book.room())),

@@ -9,7 +9,8 @@ pub mod questions;
 pub mod tag;
 
 ghost use Rattle.std.specs.Prelude.{◌≡◌};
-ghost use Rattle.docket.specs.Dockets.{Opened};
+ghost use Rattle.book.specs.Drafts.{Passed};
+ghost use Rattle.docket.specs.Dockets.{opening_rows, Opened};
 
 use crate::phase::Phase;
 use book::line::Line;
@@ -44,6 +45,27 @@ pub struct Unopened<'a> {
     pub lines: &'a mut [Line],
 }
 
+// Whether a docket can be opened with these capacities, over memory for so many concepts and lines.
+fn check_opening(
+    concept_capacity: usize,
+    line_capacity: usize,
+    concepts: usize,
+    lines: usize,
+) -> Result<(), Refusal>
+    ensures { Passed (opening_rows concept_capacity line_capacity concepts lines) result }
+{
+    if concept_capacity < 1 || concept_capacity > MOST_CONCEPTS {
+        return Err(Refusal::Range(0));
+    }
+    if line_capacity < 1 || line_capacity > MOST_LINES {
+        return Err(Refusal::Range(1));
+    }
+    if concepts < concept_capacity || lines < line_capacity {
+        return Err(Refusal::Range(2));
+    }
+    Ok(())
+}
+
 impl<'a> Docket<'a> {
     // A new docket with these capacities over the host's memory for concepts and for lines.
     pub fn open(
@@ -54,32 +76,19 @@ impl<'a> Docket<'a> {
     ) -> Result<Docket<'a>, Unopened<'a>>
         ensures { Opened concept_capacity line_capacity concepts.entry lines.entry result }
     {
-        if concept_capacity < 1 || concept_capacity > MOST_CONCEPTS {
-            return Err(Unopened {
-                refusal: Refusal::Range(0),
+        match check_opening(concept_capacity, line_capacity, concepts.len(), lines.len()) {
+            Ok(()) => Ok(Docket {
+                phase: Phase::Open,
+                vocabulary: Vocabulary::over(concepts, concept_capacity),
+                book: Register::over(lines, line_capacity),
+                claims: Claims::new(),
+            }),
+            // not by ?: the memory is handed back with the refusal
+            Err(refusal) => Err(Unopened {
+                refusal,
                 concepts,
                 lines,
-            });
+            }),
         }
-        if line_capacity < 1 || line_capacity > MOST_LINES {
-            return Err(Unopened {
-                refusal: Refusal::Range(1),
-                concepts,
-                lines,
-            });
-        }
-        if concepts.len() < concept_capacity || lines.len() < line_capacity {
-            return Err(Unopened {
-                refusal: Refusal::Range(2),
-                concepts,
-                lines,
-            });
-        }
-        Ok(Docket {
-            phase: Phase::Open,
-            vocabulary: Vocabulary::over(concepts, concept_capacity),
-            book: Register::over(lines, line_capacity),
-            claims: Claims::new(),
-        })
     }
 }

@@ -3,8 +3,7 @@
 ghost use Rattle.std.specs.Prelude.{◌≤◌, length, IfOk};
 
 use anyhow::{Context, bail};
-use book::line::{Cited, Line, Step};
-use calculus::rule::Principals;
+use book::line::Line;
 use docket::Docket;
 use intake::{Reply, take_file};
 use logic::concept::Concept;
@@ -39,24 +38,12 @@ fn fill(input: &mut impl Read, buffer: &mut [u8]) -> io::Result<usize>
     Ok(filled)
 }
 
-// A place for a line that no line has taken.
-fn blank_line() -> Line {
-    Line {
-        step: Step {
-            rule: 0,
-            on: Principals { p: 0, q: 0, s: 0 },
-            cited: Cited::Nothing,
-        },
-        label: [0; 16],
-    }
-}
-
 // Reads a dossier, hands it to a new docket with the ten rules, and prints the reply to each record and the tally.
 fn run(rt: &HostRuntime) -> anyhow::Result<()> {
     let mut buffer = [0; LIMIT];
     let filled = fill(&mut rt.stdin(), &mut buffer)?;
     let mut concepts = [Concept::Top; CONCEPTS];
-    let mut lines = [blank_line(); LINES];
+    let mut lines = [Line::default(); LINES];
     let mut rows = [0; ROWS];
     let mut replies = [Reply {
         kind: 0,

@@ -24,6 +24,7 @@ fn lowest(word: u64) -> Option<u16>
 pub fn first_outside(y: &[u64; 16], x: &[u64; 16]) -> Option<u16>
     ensures { result ≡ outside y.now x.now }
 {
+    // by place: the number of a bit is made of its word's place
     for w in 0..16 {
         if let Some(j) = lowest(y[w] ^ (y[w] & x[w])) {
             return Some(64 * w as u16 + j);
@@ -44,6 +45,7 @@ pub fn next_from(row: &[u64; 16], c: u16) -> Option<u16>
     ensures { result ≡ next_from row.now c }
 {
     let from = c as usize;
+    // by place, as above
     for w in from / 64..16 {
         if let Some(j) = lowest(without_low(row[w], from.saturating_sub(64 * w))) {
             return Some(64 * w as u16 + j);

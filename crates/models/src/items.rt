@@ -58,6 +58,8 @@ impl Edge {
     }
 }
 
+// Marks and edges are read by functions of their own: one over both would need the length of an item's bytes as an
+// array's length, which a trait can't give.
 impl<'f> Model<'f> {
     // Its marks, each as its bytes.
     pub(crate) fn mark_chunks(&self) -> &'f [[u8; 4]]

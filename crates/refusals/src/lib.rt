@@ -5,7 +5,7 @@ ghost use Rattle.refusals.specs.Table.{returned};
 
 // The fifteen ways to say no, each with the values that its place is made of.
 // Field positions count from 0; supplied memory has the position after the last field.
-#[derive(Clone, Copy)]
+#[derive(Clone, Copy, Debug, PartialEq, Eq)]
 pub enum Refusal {
     // The record at this offset has an unknown kind, a length that its kind can't have, or is cut off.
     Malformed(usize),

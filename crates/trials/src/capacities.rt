@@ -1,4 +1,4 @@
-use crate::desk::{blank, opened, opened_for, told};
+use crate::desk::{opened, opened_for, told};
 use book::line::Line;
 use logic::concept::Concept;
 use std::process::Abort;
@@ -8,7 +8,7 @@ use std::test::Fail;
 #[test]
 fn role_axioms(rt: HostRuntime) -> Result<(), Fail> {
     let mut concepts = [Concept::Top; 1];
-    let mut lines = [blank(); 1];
+    let mut lines = [Line::default(); 1];
     let mut docket = opened(&mut concepts, &mut lines)?;
     for i in 0..256u16 {
         let answer = if i % 3 == 0 {
@@ -37,7 +37,7 @@ fn role_axioms(rt: HostRuntime) -> Result<(), Fail> {
 #[test]
 fn axioms(rt: HostRuntime) -> Result<(), Fail> {
     let mut concepts = [Concept::Top; 256];
-    let mut lines = [blank(); 1];
+    let mut lines = [Line::default(); 1];
     let mut docket = opened(&mut concepts, &mut lines)?;
     for c in 0..256u16 {
         assert_eq!(rt; told(docket.file_concept(2, c, 0)), Ok(c as usize));
@@ -122,6 +122,6 @@ fn all_take(rt: &impl Abort, memory: &mut [Concept], lines: &mut [Line]) -> Resu
 #[test]
 fn concepts(rt: HostRuntime) -> Result<(), Fail> {
     let mut memory = [Concept::Top; 1025];
-    let mut lines = [blank(); 1];
+    let mut lines = [Line::default(); 1];
     all_take(&rt, &mut memory, &mut lines)
 }

@@ -1,4 +1,5 @@
-use crate::desk::{blank, hand_over, opened, replied, told};
+use book::line::Line;
+use crate::desk::{hand_over, opened, replied, told};
 use crate::files::{MALFORMED, RECORDS, Row, UNTOUCHED, file};
 use intake::Reply;
 use logic::concept::Concept;
@@ -38,7 +39,7 @@ fn as_ever(rt: &impl Abort, record: &Row, reply: &Reply, (size, wrong): (u16, u1
 // The record that was put before record number `at`, of this length and kind, is malformed.
 fn read_past(rt: &impl Abort, file: &[u8], at: usize, damage: (u16, u16)) -> Result<(), Fail> {
     let mut memory = [Concept::Top; 3];
-    let mut lines = [blank(); 1];
+    let mut lines = [Line::default(); 1];
     let mut docket = opened(&mut memory, &mut lines)?;
     let mut replies = [UNTOUCHED; 14];
     assert_eq!(rt; told(hand_over(&mut docket, file, &mut replies)), Ok(14));

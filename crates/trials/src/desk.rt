@@ -1,5 +1,4 @@
-use book::line::{Cited, Line, Step};
-use calculus::rule::Principals;
+use book::line::Line;
 use docket::{Answer, Docket};
 use intake::{Reply, take_file};
 use logic::concept::Concept;
@@ -17,18 +16,6 @@ pub fn told<T: Copy>(answer: Result<T, Refusal>) -> Said<T> {
 // What a reply says: the kind of the record, and the answer.
 pub fn replied(reply: &Reply) -> (u16, Said<usize>) {
     (reply.kind, told(reply.answer))
-}
-
-// A line to fill memory with.
-pub fn blank() -> Line {
-    Line {
-        step: Step {
-            rule: 0,
-            on: Principals { p: 0, q: 0, s: 0 },
-            cited: Cited::Nothing,
-        },
-        label: [0; 16],
-    }
 }
 
 // A docket of these capacities. It borrows its memory, so each test makes that in lines of its own.

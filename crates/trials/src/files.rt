@@ -1,4 +1,5 @@
-use crate::desk::{Said, blank, hand_over, opened, replied, told};
+use book::line::Line;
+use crate::desk::{Said, hand_over, opened, replied, told};
 use intake::Reply;
 use logic::concept::Concept;
 use records::reader::count;
@@ -88,7 +89,7 @@ fn as_cut(rt: &impl Abort, n: usize, record: &Row, reply: &Reply) {
 fn cut_to(rt: &impl Abort, n: usize) -> Result<(), Fail> {
     assert!(rt; n <= 110);
     let mut memory = [Concept::Top; 3];
-    let mut lines = [blank(); 1];
+    let mut lines = [Line::default(); 1];
     let mut docket = opened(&mut memory, &mut lines)?;
     let mut replies = [UNTOUCHED; 14];
     let whole = file();

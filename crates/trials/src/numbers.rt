@@ -1,4 +1,5 @@
-use crate::desk::{Said, blank, opened, told};
+use crate::desk::{Said, opened, told};
+use book::line::Line;
 use docket::Docket;
 use logic::concept::Concept;
 use std::process::Abort;
@@ -129,7 +130,7 @@ fn taken(rt: &impl Abort, docket: &mut Docket, sealed: bool) {
 
 fn concepts_in(rt: &impl Abort, sealed: bool) -> Result<(), Fail> {
     let mut memory = [Concept::Top; 1024];
-    let mut lines = [blank(); 1];
+    let mut lines = [Line::default(); 1];
     let mut docket = opened(&mut memory, &mut lines)?;
     if sealed {
         assert_eq!(rt; told(docket.seal()), Ok(0));
@@ -208,7 +209,7 @@ fn questions(rt: &impl Abort, docket: &Docket) {
 #[test]
 fn role_fields(rt: HostRuntime) -> Result<(), Fail> {
     let mut memory = [Concept::Top; 1];
-    let mut lines = [blank(); 1];
+    let mut lines = [Line::default(); 1];
     let mut docket = opened(&mut memory, &mut lines)?;
     role_axioms(&rt, &mut docket);
     assert_eq!(rt; told(docket.seal()), Ok(0));

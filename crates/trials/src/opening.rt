@@ -1,4 +1,3 @@
-use crate::desk::blank;
 use book::line::Line;
 use docket::Docket;
 use logic::concept::Concept;
@@ -64,7 +63,7 @@ fn all_as_said(rt: &impl Abort, concepts: &mut [Concept], lines: &mut [Line]) {
 #[test]
 fn openings(rt: HostRuntime) -> Result<(), Fail> {
     let mut concepts = [Concept::Top; 1025];
-    let mut lines = [blank(); 4097];
+    let mut lines = [Line::default(); 4097];
     all_as_said(&rt, &mut concepts, &mut lines);
     Ok(())
 }

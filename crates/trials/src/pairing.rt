@@ -1,4 +1,5 @@
-use crate::desk::{Said, blank, opened, told};
+use crate::desk::{Said, opened, told};
+use book::line::Line;
 use docket::Docket;
 use logic::concept::Concept;
 use std::process::Abort;
@@ -210,7 +211,7 @@ fn file_all(rt: &impl Abort, docket: &mut Docket) {
 
 fn pairings_in(rt: &impl Abort, way: Way) -> Result<(), Fail> {
     let mut memory = [Concept::Top; 26];
-    let mut lines = [blank(); 1];
+    let mut lines = [Line::default(); 1];
     let mut docket = opened(&mut memory, &mut lines)?;
     if way.sealed {
         assert_eq!(rt; told(docket.seal()), Ok(0));

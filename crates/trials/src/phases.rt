@@ -1,4 +1,5 @@
-use crate::desk::{blank, opened, told};
+use crate::desk::{opened, told};
+use book::line::Line;
 use docket::Docket;
 use logic::concept::Concept;
 use std::process::Abort;
@@ -49,7 +50,7 @@ fn roles_as_filed(rt: &impl Abort, docket: &Docket) {
 #[test]
 fn phases(rt: HostRuntime) -> Result<(), Fail> {
     let mut memory = [Concept::Top; 3];
-    let mut lines = [blank(); 1];
+    let mut lines = [Line::default(); 1];
     let mut docket = opened(&mut memory, &mut lines)?;
     before(&rt, &mut docket);
     assert_eq!(rt; told(docket.seal()), Ok(0));
@@ -70,7 +71,7 @@ fn phases(rt: HostRuntime) -> Result<(), Fail> {
 #[test]
 fn empty_seal(rt: HostRuntime) -> Result<(), Fail> {
     let mut memory = [Concept::Top; 1];
-    let mut lines = [blank(); 1];
+    let mut lines = [Line::default(); 1];
     let mut docket = opened(&mut memory, &mut lines)?;
     assert_eq!(rt; told(docket.seal()), Ok(0));
     refused_after(&rt, &mut docket);

@@ -1,5 +1,6 @@
-use crate::desk::{blank, hand_over, opened, told};
+use crate::desk::{hand_over, opened, told};
 use crate::files::{UNTOUCHED, file, is_untouched};
+use book::line::Line;
 use docket::Docket;
 use intake::Reply;
 use logic::concept::Concept;
@@ -53,7 +54,7 @@ fn with_some(
 
 fn with_places(rt: &impl Abort, n: usize) -> Result<(), Fail> {
     let mut memory = [Concept::Top; 3];
-    let mut lines = [blank(); 1];
+    let mut lines = [Line::default(); 1];
     let mut docket = opened(&mut memory, &mut lines)?;
     let mut replies = [UNTOUCHED; 14];
     with_some(rt, n, &mut docket, &mut replies)
@@ -62,7 +63,7 @@ fn with_places(rt: &impl Abort, n: usize) -> Result<(), Fail> {
 // An empty file needs no place, and one byte is a record.
 fn without_places(rt: &impl Abort) -> Result<(), Fail> {
     let mut memory = [Concept::Top; 3];
-    let mut lines = [blank(); 1];
+    let mut lines = [Line::default(); 1];
     let mut docket = opened(&mut memory, &mut lines)?;
     assert_eq!(rt; told(hand_over(&mut docket, &[], &mut [])), Ok(0));
     assert_eq!(rt; told(hand_over(&mut docket, &[6], &mut [])), Err((3, 1)));

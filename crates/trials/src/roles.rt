@@ -1,4 +1,5 @@
-use crate::desk::{blank, opened, told};
+use crate::desk::{opened, told};
+use book::line::Line;
 use docket::Docket;
 use logic::concept::Concept;
 use std::process::Abort;
@@ -7,7 +8,7 @@ use std::test::Fail;
 // Files the inclusions, seals, and compares what is below what.
 fn says(rt: &impl Abort, inclusions: &[(u16, u16)], rows: &[(u16, u16, bool)]) -> Result<(), Fail> {
     let mut memory = [Concept::Top; 1];
-    let mut lines = [blank(); 1];
+    let mut lines = [Line::default(); 1];
     let mut docket = opened(&mut memory, &mut lines)?;
     for (n, (r, s)) in inclusions.iter().enumerate() {
         assert_eq!(rt; told(docket.file_inclusion(*r, *s)), Ok(n));
@@ -143,7 +144,7 @@ fn link(rt: &impl Abort, order: Order, i: u16, links: u16) -> u16 {
 // Files such a chain, its links in this order.
 fn chain(rt: &impl Abort, names: u16, order: Order, twist: bool) -> Result<(), Fail> {
     let mut memory = [Concept::Top; 1];
-    let mut lines = [blank(); 1];
+    let mut lines = [Line::default(); 1];
     let mut docket = opened(&mut memory, &mut lines)?;
     let links = names.saturating_sub(1);
     for i in 0..links {
@@ -174,7 +175,7 @@ fn long_chains(rt: HostRuntime) -> Result<(), Fail> {
 #[test]
 fn transitivities(rt: HostRuntime) -> Result<(), Fail> {
     let mut memory = [Concept::Top; 1];
-    let mut lines = [blank(); 1];
+    let mut lines = [Line::default(); 1];
     let mut docket = opened(&mut memory, &mut lines)?;
     // every third name, by the role or by its inverse
     for name in 0..64u16 {
