@@ -58,6 +58,9 @@ fn check_named<B: Bank>(bank: &B, v: &Vocabulary, lines: &[Line], f: &Draft) -> 
     check_standing(f.members, count, 6)
 }
 
+// Bank, vocabulary, lines and draft are handed on apart: with a premise in place of three of them, the proof of
+// `first_unfit` did not close.
+
 // The least concept of the row `y` that is outside conclusion `i`.
 fn outside_conclusion<B: Bank>(
     bank: &B,

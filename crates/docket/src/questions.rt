@@ -17,6 +17,9 @@ use book::search::find_within;
 use labels::members::row_of;
 use refusals::Refusal;
 
+// What an answer means is promised of a docket that is reached. That it is can't be a fact of the type: a ghost field has
+// to be a proposition, and what follows from the bare fact that some run exists is no more than a bare fact itself.
+
 impl<'a> Docket<'a> {
     // Whether the docket is sealed, as the questions on roles and on conclusions ask.
     pub(crate) fn check_sealed(&self) -> Result<(), Refusal>
