@@ -9,6 +9,7 @@ use Rattle.labels.specs.Least.{least}
 use Rattle.labels.specs.Labels.{row, absent_at, falling_at}
 use Rattle.vocabulary.specs.declared.Vocabulary.{Vocabulary}
 use Rattle.vocabulary.specs.Vocabularies.{concepts}
+use Rattle.calculus.specs.declared.rule.Principals.{Principals}
 use Rattle.calculus.specs.Calculi.{Calculus}
 use Rattle.book.specs.declared.filing.Draft.{Draft}
 use Rattle.book.specs.declared.line.Line.{Line}
@@ -46,6 +47,10 @@ range_rows k f =
     when (not (k.has f.rule)) (Range 0)
     ∷ when (nat_lt (k.cites f.rule) 1 && not (f.m == 0)) (Range 4)
     ∷ when (nat_lt (k.cites f.rule) 2 && not (f.n == 0)) (Range 5) ∷ []
+
+-- what a step's principals are asked, where so many concepts stand
+abbrev pub principal_rows : ℕ → Principals → List (Option Refusal)
+principal_rows count on = when (nat_le count on.p) (Absent 1) ∷ when (nat_le count on.q) (Absent 2) ∷ when (nat_le count on.s) (Absent 3) ∷ []
 
 abbrev pub absent_rows : Calculus → Vocabulary → List Line → Draft → List (Option Refusal)
 absent_rows k v ls f =

@@ -3,7 +3,7 @@ ghost use Rattle.book.specs.Lines.{label_of};
 ghost use Rattle.book.specs.Drafts.{Checked, RowsAreRight, Passed, range_rows, absent_rows, unfit, least_outside, conclusion};
 
 use crate::line::{Cited, Line, Step};
-use crate::members::{check_rising, check_standing, check_stands};
+use crate::members::{check_principals, check_rising, check_standing, check_stands};
 use calculus::bank::Bank;
 use calculus::premise::Premise;
 use calculus::rule::Principals;
@@ -22,6 +22,9 @@ pub struct Draft<'m> {
     pub n: u16,
     pub members: &'m [u8],
 }
+
+// The functions of this file take bank, vocabulary, lines and draft apart: where a premise was to stand for three of them,
+// the proof of `first_unfit` did not close.
 
 // The rule number and the cited lines that it doesn't use.
 fn check_range<B: Bank>(bank: &B, f: &Draft) -> Result<(), Refusal>
@@ -45,9 +48,7 @@ fn check_named<B: Bank>(bank: &B, v: &Vocabulary, lines: &[Line], f: &Draft) -> 
     ensures { Passed (absent_rows (B.Bank.calculus bank.now) v.now lines.now f.now) result }
 {
     let count = v.len();
-    check_stands(f.on.p, count, 1)?;
-    check_stands(f.on.q, count, 2)?;
-    check_stands(f.on.s, count, 3)?;
+    check_principals(f.on, count)?;
     let cites = bank.cites(f.rule);
     if cites > 0 {
         check_stands(f.m, lines.len(), 4)?;
@@ -57,9 +58,6 @@ fn check_named<B: Bank>(bank: &B, v: &Vocabulary, lines: &[Line], f: &Draft) -> 
     }
     check_standing(f.members, count, 6)
 }
-
-// Bank, vocabulary, lines and draft are handed on apart: with a premise in place of three of them, the proof of
-// `first_unfit` did not close.
 
 // The least concept of the row `y` that is outside conclusion `i`.
 fn outside_conclusion<B: Bank>(
@@ -81,7 +79,7 @@ fn outside_conclusion<B: Bank>(
     first_outside(y, &row)
 }
 
-// The label of a line; the empty one if there is no such line, of which a draft's rows have been asked before.
+// The label of a line; the empty one if there is no such line. An Option is no plainer: whether the line stands was asked before.
 pub fn label_of(lines: &[Line], k: u16) -> [u64; 16]
     ensures { result ≡ label_of lines.now k }
 {
@@ -140,6 +138,7 @@ pub fn check<B: Bank>(
     if !bank.applies(f.rule, &at) {
         return Err(Refusal::Inapplicable(f.rule));
     }
+    // what is found is the refusal, and `map_or(Ok(()), ..)?` is no plainer
     if let Some(c) = first_unfit(bank, v, lines, f, &label) {
         return Err(Refusal::Unlicensed(c));
     }

@@ -3,8 +3,9 @@ ghost use Rattle.file_bytes.specs.Bytes.{numbers};
 ghost use Rattle.labels.specs.Labels.{absent_at, falling_at};
 ghost use Rattle.refusals.specs.Checks.{when, with};
 ghost use Rattle.refusals.specs.declared.Refusal.TheVariants.{Absent, Order};
-ghost use Rattle.book.specs.Drafts.{Passed};
+ghost use Rattle.book.specs.Drafts.{Passed, principal_rows};
 
+use calculus::rule::Principals;
 use labels::members::{first_absent, first_falling};
 use refusals::Refusal;
 
@@ -19,24 +20,25 @@ pub fn check_stands(number: u16, count: usize, position: u8) -> Result<(), Refus
     }
 }
 
+// Whether the concepts that a step names stand, where `count` concepts do; they have the positions 1 to 3 of their call.
+pub fn check_principals(on: Principals, count: usize) -> Result<(), Refusal>
+    ensures { Passed (principal_rows count on) result }
+{
+    check_stands(on.p, count, 1)?;
+    check_stands(on.q, count, 2)?;
+    check_stands(on.s, count, 3)
+}
+
 // Whether all members of a label stand, where `count` concepts do; the label begins at position `from` of its call.
 pub fn check_standing(members: &[u8], count: usize, from: u8) -> Result<(), Refusal>
     ensures { Passed (with (λ i. Absent (i + from)) (absent_at count (numbers members.now)) ∷ []) result }
 {
-    // what is found is the error, and std leads from `Some` to `Err` by a match alone
-    match first_absent(members, count) {
-        Some(i) => Err(Refusal::Absent(i + from as usize)),
-        None => Ok(()),
-    }
+    first_absent(members, count).map_or(Ok(()), |i| Err(Refusal::Absent(i + from as usize)))
 }
 
 // Whether each member of a label is above the one before it.
 pub fn check_rising(members: &[u8], from: u8) -> Result<(), Refusal>
     ensures { Passed (with (λ i. Order (i + from)) (falling_at (numbers members.now)) ∷ []) result }
 {
-    // as above
-    match first_falling(members) {
-        Some(i) => Err(Refusal::Order(i + from as usize)),
-        None => Ok(()),
-    }
+    first_falling(members).map_or(Ok(()), |i| Err(Refusal::Order(i + from as usize)))
 }

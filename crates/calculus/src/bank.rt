@@ -60,8 +60,8 @@ impl<R: Rule> Bank for Single<R> {
     }
 }
 
-// Two banks side by side. Each question asks the side that has the rule: the two have types of their own, so that no
-// reference to the one that answers can be taken once for all.
+// Two banks side by side. Each question asks the side that has the rule; to pick that side once would take a `dyn Bank`,
+// which is no plainer for three questions.
 #[derive(Default, Drop)]
 pub struct Pair<L, R> {
     pub left: L,

@@ -10,7 +10,8 @@ use logic::role::inverse;
 
 // The closure of the inclusions among any number of roles, in a table that the caller owns: row r has a bit for each
 // role that r is below. The table is closed at all times, so that one pass over the rows puts in one pair more. Each
-// function takes the table and the number of roles: a struct over both would be two, one that reads and one that writes.
+// function takes the table and the number of roles: the table is the caller's, of any size, so that a struct over both
+// would be two, one that reads and one that writes.
 
 // How many words a row has.
 fn row_words(roles: usize) -> usize

@@ -17,4 +17,4 @@ tag_number Exists = 7
 -- a number is that of the tag, or of none
 abbrev pub Decodes : ℕ → Result Tag UnknownTag → Type 0
 Decodes n (Ok t) = tag_number t ≡ n
-Decodes n (Err e) = 7 < n
+Decodes n (Err e) = (e.0 ≡ n) × (7 < n)

@@ -42,6 +42,7 @@ impl<'a> Docket<'a> {
         if !claimed.is_open() {
             return Err(Refusal::Closed(claim));
         }
+        // what is found is the refusal, and `map_or(Ok(()), ..)?` is no plainer
         if let Some(c) = first_outside(&cited.label, &claimed.label) {
             return Err(Refusal::Outside(c));
         }

@@ -2,13 +2,12 @@ ghost use Rattle.std.specs.Prelude.{◌≡◌, ◌≤◌, ◌++◌, length, drop
 ghost use Rattle.docket.specs.Conclusions.{Inquired, Concluded};
 
 use crate::Docket;
-use book::members::{check_rising, check_standing, check_stands};
+use book::members::{check_principals, check_rising, check_standing};
 use calculus::bank::Bank;
 use calculus::premise::Premise;
 use calculus::rule::Principals;
 use labels::members::row_of;
 use refusals::Refusal;
-use vocabulary::Vocabulary;
 
 // Which conclusion is asked for: of a rule at its principals, the one with this index, for the label with these members.
 #[derive(Clone, Copy)]
@@ -46,9 +45,7 @@ impl<'a> Docket<'a> {
             return Err(Refusal::Range(5 + asked.members.len() / 2));
         }
         let count = self.vocabulary.len();
-        check_stands(asked.on.p, count, 1)?;
-        check_stands(asked.on.q, count, 2)?;
-        check_stands(asked.on.s, count, 3)?;
+        check_principals(asked.on, count)?;
         Ok(asked.index as u8)
     }
 

@@ -20,6 +20,7 @@ impl<'a> Docket<'a> {
     pub(crate) fn enter(&mut self, kind: Kind) -> Result<(), Refusal>
         ensures { Entered self.old kind result self.new }
     {
+        // by a match on both, which is the project's form for phases
         match (self.phase, kind) {
             (_, Kind::Concept | Kind::Pair) => Ok(()),
             (Phase::Open, Kind::RoleAxiom | Kind::Axiom) => Ok(()),
@@ -77,7 +78,7 @@ impl<'a> Docket<'a> {
         self.enter(Kind::Pair)?;
         check_stands(c, self.vocabulary.len(), 0)?;
         check_stands(d, self.vocabulary.len(), 1)?;
-        // by a match: the call answers 0, and not what pairing gives
+        // by a match: the clause on what pairing means is proved arm by arm
         match self.vocabulary.pair(c, d) {
             Some(()) => Ok(0),
             None => Err(Refusal::Unpaired),

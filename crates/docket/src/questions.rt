@@ -17,8 +17,8 @@ use book::search::find_within;
 use labels::members::row_of;
 use refusals::Refusal;
 
-// What an answer means is promised of a docket that is reached. That it is can't be a fact of the type: a ghost field has
-// to be a proposition, and what follows from the bare fact that some run exists is no more than a bare fact itself.
+// What an answer means is promised of a docket that is reached. That a docket is reached is no ghost field of it: such a
+// field has to be a proposition, a run of calls is none, and from "there is some run" the meaning would not follow as it is.
 
 impl<'a> Docket<'a> {
     // Whether the docket is sealed, as the questions on roles and on conclusions ask.

@@ -28,6 +28,7 @@ const ROWS: usize = 1024;
 fn fill(input: &mut impl Read, buffer: &mut [u8]) -> io::Result<usize>
     ensures { IfOk result (λ n. n ≤ length buffer.new) }
 {
+    // by a count: std's calls that read on end in an error at the input's end, or allocate
     let mut filled = 0;
     while filled < buffer.len() {
         match input.read(&mut buffer[filled..])? {

@@ -29,10 +29,6 @@ inserted_has r m c = ⊎_elim inside past (cases_lt m (64 * length r))
     past : 64 * length r ≤ m → has (inserted r m) c ≡ ((ltb c (64 * length r) && eqb m c) || has r c)
     past h = ap (λ s. has s c) (set_past r (m / 64) _ (omega arith)) ∙ sym (ap (λ b. b || has r c) (none h))
 
-pub filled_length : (r ms : List ℕ) → length (filled r ms) ≡ length r
-filled_length r [] = refl
-filled_length r (m ∷ ms) = filled_length (inserted r m) ms ∙ length_inserted r m
-
 joined : (room here rest old : Bool) → ((room && rest) || ((room && here) || old)) ≡ ((room && (here || rest)) || old)
 joined true true true old = refl
 joined true true false old = refl
@@ -46,10 +42,6 @@ filled_has r (m ∷ ms) c =
     ∙ ap (λ n. (ltb c (64 * n) && among ms c) || has (inserted r m) c) (length_inserted r m)
     ∙ ap (λ b. (ltb c (64 * length r) && among ms c) || b) (inserted_has r m c)
     ∙ joined (ltb c (64 * length r)) (eqb m c) (among ms c) (has r c)
-
-pub row_length : (ms : List ℕ) → length (row ms) ≡ 16
-unfolding row
-row_length ms = filled_length (replicate 16 0) ms
 
 pub row_has : (ms : List ℕ) (c : ℕ) → has (row ms) c ≡ (ltb c 1024 && among ms c)
 unfolding row

@@ -6,7 +6,7 @@ ghost use Rattle.labels.specs.Least.{least};
 use bits::low_bits;
 use std::array;
 
-// A label as it is kept: a row of sixteen words. It is looked through word by word, never bit by bit.
+// A label as it is kept: a row of sixteen words, a plain array, as the host's memory for a conclusion is. It is looked through word by word, never bit by bit.
 
 // The lowest bit of a word.
 fn lowest(word: u64) -> Option<u16>
@@ -24,7 +24,7 @@ fn lowest(word: u64) -> Option<u16>
 pub fn first_outside(y: &[u64; 16], x: &[u64; 16]) -> Option<u16>
     ensures { result ≡ outside y.now x.now }
 {
-    // by place: the number of a bit is made of its word's place
+    // by place: a word is read from each of two rows, and its place is part of the answer
     for w in 0..16 {
         if let Some(j) = lowest(y[w] ^ (y[w] & x[w])) {
             return Some(64 * w as u16 + j);
@@ -45,7 +45,7 @@ pub fn next_from(row: &[u64; 16], c: u16) -> Option<u16>
     ensures { result ≡ next_from row.now c }
 {
     let from = c as usize;
-    // by place, as above
+    // by place: it begins in the middle of the row, and the place is part of the answer
     for w in from / 64..16 {
         if let Some(j) = lowest(without_low(row[w], from.saturating_sub(64 * w))) {
             return Some(64 * w as u16 + j);

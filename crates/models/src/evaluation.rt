@@ -12,7 +12,8 @@ use logic::concept::Concept;
 use register::entry::Entry;
 use rows::{clear, complement, contains, insert, intersect, unite};
 
-// Whether an edge is a pair of the role and leads into row `b`, or out of it.
+// Whether an edge is a pair of the role and leads into row `b`, or out of it. `outside` is a value that is compared, and
+// chooses no step.
 fn is_hit(rows: &[u64], edge: Edge, role: u16, b: usize, outside: bool) -> bool
     requires room { HasRow rows.now b }
     requires few { target role edge < 256 }

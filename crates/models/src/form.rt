@@ -13,7 +13,8 @@ pub(crate) struct Formed<'m> {
 }
 
 impl<'m> Formed<'m> {
-    // The model, or the place where it is wrong first.
+    // The model, or the place where it is wrong first, which is the place of the refusal. What is found is the error, and
+    // `map_or(Ok(()), ..)?` is no plainer than an `if let`.
     pub(crate) fn new(model: &'m Model<'m>) -> Result<Formed<'m>, usize>
         ensures { MatchResult result (λ formed. formed.model.now ≡ model.now) (λ place. FirstFlaw model.now place) }
     {
@@ -45,8 +46,8 @@ fn is_sized(model: &Model) -> bool
         && edges.len() / 6 <= 4096
 }
 
-// Marks and edges are tested each by functions of their own: one over both would take the test of the fields as a
-// parameter, and its contract would say no more than that it was called.
+// Marks and edges are tested by functions of their own, as they are read. They go by number, since each is set beside the
+// one before.
 
 // Whether mark `i` is in range, and above the one before.
 fn is_good_mark(model: &Model, i: usize) -> bool

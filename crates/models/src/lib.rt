@@ -41,7 +41,7 @@ pub fn judge(
     ensures judged { Kept vocabulary.now → 4 * length (concepts vocabulary.now) ≤ length rows.old → LabelStands (concepts vocabulary.now) label.now → Judged vocabulary.now label.now model.now rows.old result rows.new }
 {
     let formed = Formed::new(model).map_err(Refusal::Model)?;
-    // Each search finds what is refused, so that its `Some` is the error.
+    // Each search finds what is refused: its `Some` is the error, and `map_or(Ok(()), ..)?` is no plainer.
     if let Some(i) = formed.first_broken(vocabulary.role_axioms()) {
         return Err(Refusal::RoleAxiom(i));
     }

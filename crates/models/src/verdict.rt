@@ -7,7 +7,8 @@ ghost use Rattle.models.specs.Evaluation.{RowIsFull};
 use bits::has;
 use rows::contains;
 
-// The extensions of the first `count` concepts in a model of `size` elements: row c has the elements of concept c.
+// The extensions of the first `count` concepts in a model of `size` elements: row c has the elements of concept c. The
+// count is not the memory's, which may be longer.
 #[derive(Clone, Copy)]
 pub(crate) struct Extensions<'r> {
     pub(crate) rows: &'r [u64],

@@ -2,22 +2,12 @@
 use Rattle.std.proofs.Common.{◌≡◌, ℕ, zero, suc, ◌+◌, ◌-◌, ◌<◌, ◌≤◌, List, [], ◌∷◌, ◌++◌, length, drop, sym, refl, ap, ◌∙◌, ⊎_elim, arith}
 use Rattle.std.proofs.lemmas.List.{drop_all, drop-drop, take-append-drop}
 use Rattle.std.proofs.lemmas.Bool.{cases_lt}
-use Rattle.records.specs.Records.{size_at, Whole, end_of}
+use Rattle.records.specs.Records.{end_of}
 use Rattle.records.specs.Files.{Lies, ended, behind, bytes_of, together, FilesAreTheirRecords}
 
--- a record ends behind its beginning, and in the file
+-- a record ends behind its beginning
 pub end_above : (f : List ℕ) (i : ℕ) → i < length f → i < end_of f i
 end_above f i h = omega arith
-
-pub end_within : (f : List ℕ) (i : ℕ) → end_of f i ≤ length f
-end_within f i = omega arith
-
--- a whole record ends behind its body, and one that is cut off ends with the file
-pub end_whole : (f : List ℕ) (i : ℕ) → Whole f i → end_of f i ≡ i + 4 + size_at f i
-end_whole f i h = omega arith
-
-pub end_cut : (f : List ℕ) (i : ℕ) → (Whole f i → ⊥) → end_of f i ≡ length f
-end_cut f i h = omega arith
 
 -- a record before the others
 pub one_more : (f : List ℕ) (i : ℕ) → i < length f → (is : List ℕ) × Lies f (end_of f i) is → (is : List ℕ) × Lies f i is

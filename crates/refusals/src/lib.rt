@@ -40,7 +40,7 @@ pub enum Refusal {
 }
 
 impl Refusal {
-    // The refusal as it is returned: its number and its place.
+    // The refusal as it is returned: its number and its place, which are fixed outside.
     pub fn returned(&self) -> (u16, usize)
         ensures { result ≡ returned self.now }
     {

@@ -5,7 +5,8 @@ ghost use Rattle.register.specs.Registers.{entries, room, Pushed};
 use crate::entry::Entry;
 
 // Entries in the order in which they were taken, in memory that the host supplied. An entry's number is its place
-// in that order; it never changes, and it refers to entries with smaller numbers alone.
+// in that order; it never changes, and it refers to entries with smaller numbers alone. The memory may be longer than the
+// capacity; no fact of the three is asked, so that each call is safe on every register.
 #[derive(Drop)]
 pub struct Register<'a, E> {
     slots: &'a mut [E],

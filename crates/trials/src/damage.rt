@@ -1,6 +1,6 @@
-use book::line::Line;
 use crate::desk::{hand_over, opened, replied, told};
 use crate::files::{MALFORMED, RECORDS, Row, UNTOUCHED, file};
+use book::line::Line;
 use intake::Reply;
 use logic::concept::Concept;
 use std::alloc::Global;

@@ -1,5 +1,5 @@
-use book::line::Line;
 use crate::desk::{Said, hand_over, opened, replied, told};
+use book::line::Line;
 use intake::Reply;
 use logic::concept::Concept;
 use records::reader::count;

@@ -19,7 +19,9 @@ use logic::concept::Concept;
 use logic::role::RoleAxiom;
 use register::store::{Register, Unfit};
 
-// What has been said before any evidence: the role axioms, the concepts, which of them are mates, and the axioms.
+// What has been said before any evidence: the role axioms, the concepts, which of them are mates, and the axioms. What every
+// vocabulary keeps (`Kept`) is no ghost field: it speaks of ways between roles and of places in lists, and such a field has
+// to be a proposition.
 #[derive(Drop)]
 pub struct Vocabulary<'a> {
     roles: Roles,
