@@ -5,6 +5,7 @@ ghost use Rattle.book.specs.Drafts.{Passed};
 ghost use Rattle.docket.specs.Fields.{out_of_range, absent, Read};
 
 use crate::tag::Tag;
+use book::members::check_stands;
 use logic::concept::Concept;
 use logic::role::ROLES;
 use refusals::Refusal;
@@ -43,10 +44,10 @@ impl Use {
     fn check_stands(self, number: u16, count: usize, position: u8) -> Result<(), Refusal>
         ensures { Passed (when (absent self count number) (Absent position) ∷ []) result }
     {
-        if self == Use::Concept && number as usize >= count {
-            return Err(Refusal::Absent(position as usize));
+        match self {
+            Use::Concept => check_stands(number, count, position),
+            Use::Unused | Use::Name | Use::Role => Ok(()),
         }
-        Ok(())
     }
 }
 

@@ -61,7 +61,8 @@ impl<'a> Docket<'a> {
         Ok(self.vocabulary.mate(c))
     }
 
-    // The first standing line whose label lies within the label with these members.
+    // The first standing line whose label lies within the label with these members. The checks of a label are two, since
+    // filing a claim asks for room between them.
     pub fn first_line(&self, members: &[u8]) -> Result<Option<usize>, Refusal>
         ensures { Answered (label_rows self.now (numbers members.now)) (λ k. k ≡ first_within (lines self.now) (row (numbers members.now))) result }
     {

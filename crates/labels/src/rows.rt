@@ -1,4 +1,4 @@
-ghost use Rattle.std.specs.Prelude.{◌≡◌, ◌-◌, ◌*◌, ◌/◌, ◌^◌, ◌<◌, min, ◌&&◌, IfSome, nat_lt};
+ghost use Rattle.std.specs.Prelude.{◌≡◌, ◌*◌, ◌/◌, ◌^◌, ◌<◌, ◌&&◌, IfSome, nat_lt};
 ghost use Rattle.bits.specs.Bits.{bit, has};
 ghost use Rattle.labels.specs.Labels.{Row, outside, next_from};
 ghost use Rattle.labels.specs.Least.{least};

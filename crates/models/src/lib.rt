@@ -20,6 +20,7 @@ use vocabulary::Vocabulary;
 // A finite model as it is handed over: how many elements there are, which of them is the point, and its marks and edges.
 // A mark says that an element is in a name: (element, name). An edge says that a role name leads from an element to
 // another: (role name, from, to). Both lists rise in the lexicographic order; every field has two bytes, the low one first.
+// The count of marks is the one that the record states, and need not be that of its bytes.
 #[derive(Drop)]
 pub struct Model<'f> {
     pub size: u16,
