@@ -1,8 +1,9 @@
 -- Rows with numbers put in, cut to those that stand.
-use Rattle.std.proofs.Common.{◌≡◌, ℕ, ◌*◌, Bool, true, false, ◌&&◌, ◌||◌, ltb, List, length, sym, refl, ap, ◌∙◌}
+use Rattle.std.proofs.Common.{◌≡◌, ℕ, ◌*◌, Bool, true, false, ◌&&◌, ◌||◌, ltb, List, [], ◌∷◌, length, sym, refl, ap, ◌∙◌}
 use mathlib.Core.Bool.{or_comm}
 use Rattle.std.proofs.Math.Bool.{and_self_left}
-use Rattle.bits.specs.Bits.{has}
+use Rattle.bits.specs.Bits.{has, inserted}
+use Rattle.bits.proofs.BitFacts.{length_inserted}
 use Rattle.labels.specs.Labels.{Row, among, filled}
 use Rattle.labels.proofs.RowFacts.{filled_has}
 use Rattle.calculus.specs.declared.premise.Premise.{Premise}
@@ -11,6 +12,11 @@ use Rattle.vocabulary.specs.Vocabularies.{concepts}
 within : (b t a h : Bool) → (b && (t && ((b && a) || h))) ≡ (b && (t && (h || a)))
 within true t a h = ap (λ z. t && z) (or_comm a h)
 within false t a h = refl
+
+-- a row that numbers are put into keeps its length
+pub filled_length : (r ms : List ℕ) → length (filled r ms) ≡ length r
+filled_length r [] = refl
+filled_length r (m ∷ ms) = filled_length (inserted r m) ms ∙ length_inserted r m
 
 pub extended_row : (row all added r : List ℕ) (count : ℕ) → length row ≡ 16 → all ≡ filled row added → Row r (λ c. ltb c count && has all c)
     → Row r (λ c. ltb c count && (has row c || among added c))

@@ -1,8 +1,7 @@
 use Rattle.std.proofs.Common.{◌≡◌, ℕ, ◌&&◌, ltb, length, sym, ap, ◌∙◌, subst, arith}
 use Rattle.bits.specs.Bits.{has}
 use Rattle.labels.specs.Labels.{Row}
-use Rattle.labels.proofs.RowFacts.{filled_length}
-use Rattle.schemas.proofs.Extending.{extended_row}
+use Rattle.schemas.proofs.Extending.{filled_length, extended_row}
 use Rattle.schemas.proofs.conclusion.extended.Goals as goal
 
 pub returns : goal.returns
