@@ -80,7 +80,8 @@ fn outside_conclusion<B: Bank>(
 }
 
 // The label of a line; the empty one if there is no such line. An Option is no plainer: whether the line stands was asked before.
-pub fn label_of(lines: &[Line], k: u16) -> [u64; 16]
+// By a match: with `map_or` its contract was not proved.
+fn label_of(lines: &[Line], k: u16) -> [u64; 16]
     ensures { result ≡ label_of lines.now k }
 {
     match lines.get(k as usize) {

@@ -1,17 +1,22 @@
 -- The law of a bank from the laws of its rules.
-use Rattle.std.specs.Prelude.{◌≡◌, ℕ, ◌<◌, ◌≤◌, Bool, true, false, cond, ◌||◌, ◌==◌, refl}
-use Rattle.std.proofs.lemmas.Bool.{and_parts}
+use Rattle.std.specs.Prelude.{◌≡◌, ℕ, ◌<◌, ◌≤◌, Bool, true, false, cond, ◌&&◌, ◌||◌, ◌==◌, refl}
+use Rattle.std.proofs.lemmas.Bool.{false≢true, and_parts}
 use Rattle.bits.specs.Bits.{has as has-bit}
 use Rattle.vocabulary.specs.declared.Vocabulary.{Vocabulary}
 use Rattle.calculus.specs.Schemas.{Schema, Sound, Lawful}
 use Rattle.calculus.specs.Calculi.{Calculus, LawfulCalculus, alone, beside}
 
+-- a step that is taken on a condition is as sound as it is
+only_sound : (z : Bool) (v : Vocabulary) (X : ℕ → Bool) (a : Bool) (n : ℕ) (f : ℕ → ℕ → Bool) → Sound v X a n f → Sound v X (z && a) n (λ i c. z && f i c)
+only_sound true v X a n f s = s
+only_sound false v X a n f s = λ I kept meets h. absurd (false≢true h)
+
 pub alone_lawful : (r : Schema) → Lawful r → LawfulCalculus (alone r)
 alone_lawful r l = record {
   few = λ n. l.few;
   known = λ n v on x h. (and_parts (n == r.number) (r.applies v on x) h).0;
-  bounded = λ n. l.bounded;
-  sound = λ n v on x I kept meets h. l.sound v on x I kept meets (and_parts (n == r.number) (r.applies v on x) h).1;
+  bounded = λ n v on x i c h. l.bounded v on x i c (and_parts (n == r.number) (r.concludes v on x i c) h).1;
+  sound = λ n v on x. only_sound (n == r.number) v (has-bit x) (r.applies v on x) r.cites (r.concludes v on x) (l.sound v on x);
 }
 
 -- what holds of either holds of the one that is chosen

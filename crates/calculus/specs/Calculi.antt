@@ -25,7 +25,7 @@ alone r = record {
   has = λ n. (n == r.number);
   cites = λ n. r.cites;
   applies = λ n v on x. (n == r.number) && r.applies v on x;
-  concludes = λ n v on x i c. r.concludes v on x i c;
+  concludes = λ n v on x i c. (n == r.number) && r.concludes v on x i c;
 }
 
 -- two banks side by side: the left one answers if it has the rule

@@ -56,7 +56,11 @@ impl<R: Rule> Bank for Single<R> {
     }
 
     fn conclusion(&self, rule: u16, at: &Premise, i: u8) -> [u64; 16] {
-        self.rule.conclusion(at, i)
+        if rule == R::RULE_NUMBER {
+            self.rule.conclusion(at, i)
+        } else {
+            [0; 16]
+        }
     }
 }
 

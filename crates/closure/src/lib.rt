@@ -77,6 +77,7 @@ fn add_pair(table: &mut [u64], roles: usize, r: usize, s: usize)
     requires few { roles < 2 ^ 32 }
     ensures { PairAdded table.old table.new roles r s }
 {
+    // a range over the roles; nothing is indexed by it here
     for i in 0..roles {
         if below(table, roles, i, r) {
             join_row(table, roles, i, s);

@@ -20,7 +20,7 @@ impl<'a> Docket<'a> {
     pub(crate) fn enter(&mut self, kind: Kind) -> Result<(), Refusal>
         ensures { Entered self.old kind result self.new }
     {
-        // by a match on both, which is the project's form for phases
+        // by a match on both, so that every pair of phase and kind is seen to be listed
         match (self.phase, kind) {
             (_, Kind::Concept | Kind::Pair) => Ok(()),
             (Phase::Open, Kind::RoleAxiom | Kind::Axiom) => Ok(()),
@@ -78,7 +78,7 @@ impl<'a> Docket<'a> {
         self.enter(Kind::Pair)?;
         check_stands(c, self.vocabulary.len(), 0)?;
         check_stands(d, self.vocabulary.len(), 1)?;
-        // by a match: the clause on what pairing means is proved arm by arm
+        // by a match: the clause on what pairing means is proved arm by arm; with `ok_or` it was not
         match self.vocabulary.pair(c, d) {
             Some(()) => Ok(0),
             None => Err(Refusal::Unpaired),
@@ -116,7 +116,8 @@ impl<'a> Docket<'a> {
             self.book.room(),
             draft,
         )?;
-        // by a match: a line that was checked always fits, and the arm of the error is where that is shown
+        // by a match: a line that was checked always fits, and the arm of the error is where that is shown; with `map_err` it was not
+        // proved
         match self.book.push(line) {
             Ok(number) => Ok(number),
             Err(_) => Err(Refusal::Full(self.book.room())),

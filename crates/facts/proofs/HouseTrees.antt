@@ -51,8 +51,7 @@ module _ (v : Vocabulary) (kept : Kept v) where
 
   carries : (n m : Node) (i : ℕ) → AppliedByTable v n → CarriesByTable v n i m → Carries house v n i m
   carries n m i a q c l =
-      let (lo, hi) = one_of_ten n a in
-      let said = house_is_the_table.lines v kept n.rule n.on.p n.on.q n.on.s (row n.label) lo hi i c in
+      let said = house_is_the_table.lines v kept n.rule n.on.p n.on.q n.on.s (row n.label) i c in
       let said_of = λ (X : ℕ → Bool). Concludes v X n.rule n.on.p n.on.q n.on.s i c in
       same_tests (among m.label c) (house.concludes n.rule v n.on (row n.label) i c)
       (λ h. said.1 (subst said_of (sym (label_is n a)) ((q c).0 h)))

@@ -14,7 +14,7 @@ pub alone_proper : (r : Schema) → ProperRule r.applies r.concludes → Proper 
 alone_proper r p n = record {
   principals_stand = λ v on x kept stand h. p.principals_stand v on x kept stand (rule v on x h).1;
   still_applies = λ v w c d kept paired on x h. and_from (eqb n r.number) (r.applies w on x) (rule v on x h).0 (p.still_applies v w c d kept paired on x (rule v on x h).1);
-  still_concludes = λ v w c d kept paired on x h. p.still_concludes v w c d kept paired on x (rule v on x h).1;
+  still_concludes = λ v w c d kept paired on x h i e. ap (λ b. eqb n r.number && b) (p.still_concludes v w c d kept paired on x (rule v on x h).1 i e);
 }
   where
     rule : (v : Vocabulary) (on : _) (x : List ℕ) → (eqb n r.number && r.applies v on x) ≡ true → (eqb n r.number ≡ true) × (r.applies v on x ≡ true)

@@ -3,7 +3,9 @@ ghost use Rattle.register.specs.Lists.{Added};
 
 use std::marker::Model;
 
-// A list of at most N items, held in place, where a register has the host's memory, of a size known only when it runs. Contracts see the list of its items, in the order in which they were added.
+// A list of at most N items, held in place, where a register has the host's memory, of a size known only when it runs.
+// Contracts see the list of its items, in the order in which they were added. (The kit's `arrayvec` does the same; the library
+// crates use no crate of the kit beside `std`.)
 #[derive(Drop)]
 pub struct Bounded<T, const N: usize> {
     items: [T; N],

@@ -121,7 +121,7 @@ neighbour_lawful = lawful 10 1 _ _ (omega arith) refl neighbour_agrees
 pub record AllAgree (k : Calculus) : Type 0 where
   pub all_of_ten : (n : ℕ) → k.has n ≡ true → (1 ≤ n) × (n ≤ 10)
   pub all_steps : (v : Vocabulary) → Kept v → (n : ℕ) (on : Principals) (x : List ℕ) → k.applies n v on x ≡ true → Applies v (has x) n on.p on.q on.s
-  pub all_lines : (v : Vocabulary) → Kept v → (n : ℕ) (on : Principals) (x : List ℕ) (i c : ℕ) → k.has n ≡ true → k.concludes n v on x i c ≡ true
+  pub all_lines : (v : Vocabulary) → Kept v → (n : ℕ) (on : Principals) (x : List ℕ) (i c : ℕ) → k.concludes n v on x i c ≡ true
       → Concludes v (has x) n on.p on.q on.s i c
 
 pub alone_agrees : (r : Schema) → Agrees r → AllAgree (alone r)
@@ -129,8 +129,8 @@ alone_agrees r a = record {
   all_of_ten = λ n h. subst (λ (m : ℕ). (1 ≤ m) × (m ≤ 10)) (sym (eqb-true n r.number h)) a.one_of_ten;
   all_steps = λ v keeps n on x h. let (e, b) = and_parts (eqb n r.number) (r.applies v on x) h in
       subst (λ (m : ℕ). Applies v (has x) m on.p on.q on.s) (sym (eqb-true n r.number e)) (a.steps v keeps on x b);
-  all_lines = λ v keeps n on x i c e h.
-      subst (λ (m : ℕ). Concludes v (has x) m on.p on.q on.s i c) (sym (eqb-true n r.number e)) (a.lines v keeps on x i c h);
+  all_lines = λ v keeps n on x i c h. let (e, b) = and_parts (eqb n r.number) (r.concludes v on x i c) h in
+      subst (λ (m : ℕ). Concludes v (has x) m on.p on.q on.s i c) (sym (eqb-true n r.number e)) (a.lines v keeps on x i c b);
 }
 
 -- what both ways give, the one that is chosen gives
@@ -142,14 +142,10 @@ either_way : (z a b : Bool) (P : Type 0) → (a ≡ true → P) → (b ≡ true 
 either_way true a b P f g h = f h
 either_way false a b P f g h = g h
 
-either_line : (z y a b : Bool) (P : Type 0) → (z ≡ true → a ≡ true → P) → (y ≡ true → b ≡ true → P) → (z || y) ≡ true → cond z a b ≡ true → P
-either_line true y a b P f g e h = f refl h
-either_line false y a b P f g e h = g e h
-
 pub beside_agrees : (a b : Calculus) → AllAgree a → AllAgree b → AllAgree (beside a b)
 beside_agrees a b f g = record {
   all_of_ten = λ n. either_has (a.has n) (b.has n) _ (f.all_of_ten n) (g.all_of_ten n);
   all_steps = λ v keeps n on x. either_way (a.has n) (a.applies n v on x) (b.applies n v on x) _ (f.all_steps v keeps n on x) (g.all_steps v keeps n on x);
-  all_lines = λ v keeps n on x i c. either_line (a.has n) (b.has n) (a.concludes n v on x i c) (b.concludes n v on x i c) _
+  all_lines = λ v keeps n on x i c. either_way (a.has n) (a.concludes n v on x i c) (b.concludes n v on x i c) _
       (f.all_lines v keeps n on x i c) (g.all_lines v keeps n on x i c);
 }

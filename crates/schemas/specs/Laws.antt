@@ -13,8 +13,8 @@ pub record SaysTheTable (k : Calculus) : Type 0 where
   pub ten : (n : ℕ) → (k.has n ≡ true) ↔ ((1 ≤ n) × (n ≤ 10))
   pub counts : (n : ℕ) → 1 ≤ n → n ≤ 10 → k.cites n ≡ slice_index conclusions (n - 1)
   pub steps : (v : Vocabulary) → Kept v → (n p q s : ℕ) (x : List ℕ) → (k.applies n v (record { p = p; q = q; s = s }) x ≡ true) ↔ Applies v (has x) n p q s
-  pub lines : (v : Vocabulary) → Kept v → (n p q s : ℕ) (x : List ℕ) → 1 ≤ n → n ≤ 10
-      → (i c : ℕ) → (k.concludes n v (record { p = p; q = q; s = s }) x i c ≡ true) ↔ Concludes v (has x) n p q s i c
+  pub lines : (v : Vocabulary) → Kept v → (n p q s : ℕ) (x : List ℕ) (i c : ℕ)
+      → (k.concludes n v (record { p = p; q = q; s = s }) x i c ≡ true) ↔ Concludes v (has x) n p q s i c
 
 abbrev pub HouseIsTheTable : Type 0
 HouseIsTheTable = SaysTheTable house
