@@ -1,0 +1,45 @@
+#![tactic(auto)]
+
+use anyhow::bail;
+use book::line::Line;
+use console::input::fill;
+use console::report::report;
+use docket::{Docket, MOST_CONCEPTS, MOST_LINES};
+use intake::Reply;
+use logic::concept::Concept;
+use records::reader::count;
+
+// The program `dossier` with the largest docket that can be opened, and room for its evidence: for comparing and for
+// measuring.
+
+// The most bytes that are read.
+const LIMIT: usize = 4_194_304;
+
+// Four words for each concept.
+const ROWS: usize = 4 * MOST_CONCEPTS;
+
+// Reads a dossier, hands it to a new docket with the ten rules, and prints what the docket said.
+fn main(rt: HostRuntime) -> anyhow::Result<()> {
+    let mut buffer = Vec::new(rt.alloc());
+    buffer.resize(LIMIT, 0)?;
+    let filled = fill(&mut rt.stdin(), &mut buffer)?;
+    let file = &buffer[0..filled];
+    let mut concepts = Vec::new(rt.alloc());
+    concepts.resize(MOST_CONCEPTS, Concept::Top)?;
+    let mut lines = Vec::new(rt.alloc());
+    lines.resize(MOST_LINES, Line::default())?;
+    let mut rows = Vec::new(rt.alloc());
+    rows.resize(ROWS, 0)?;
+    let mut replies = Vec::new(rt.alloc());
+    replies.resize(
+        count(file),
+        Reply {
+            kind: 0,
+            answer: Ok(0),
+        },
+    )?;
+    let Ok(mut docket) = Docket::open(MOST_CONCEPTS, MOST_LINES, &mut concepts, &mut lines) else {
+        bail!("no docket of these capacities");
+    };
+    report(&rt, &mut docket, file, &mut rows, &mut replies)
+}
