@@ -4,6 +4,8 @@ pub mod ChunkFacts
 pub mod AnyFacts
 pub mod EdgeFacts
 pub mod PairFacts
+pub mod TableFacts
+pub mod WithinFacts
 pub mod WalkFacts
 pub mod MeaningFacts
 pub mod JudgingFacts

@@ -1,14 +1,12 @@
 -- A role axiom is met exactly if every edge has what it asks.
-use Rattle.std.proofs.Common.{◌≡◌, ℕ, ◌+◌, ◌-◌, ◌/◌, ◌%◌, ◌<◌, Bool, true, false, cond, T, eqb, ◌↔◌, List, length, sym, refl, ap, ◌∙◌, subst, arith}
-use Rattle.std.proofs.lemmas.Bool.{cond_both}
-use Rattle.logic.specs.Interpretations.{Element, Leads, Includes, IsTransitive}
+use Rattle.std.proofs.Common.{◌≡◌, ℕ, ◌/◌, ◌%◌, ◌<◌, Bool, true, false, cond, T, eqb, ◌↔◌, List, sym, ap, subst, arith}
+use Rattle.std.proofs.lemmas.Bool.{cond_both, false_from_ne_true}
+use Rattle.logic.specs.Interpretations.{Element, leads, Leads, Includes, IsTransitive}
 use Rattle.models.specs.declared.Model.{Model}
-use Rattle.models.specs.declared.items.Edge.{Edge}
 use Rattle.models.specs.Items.{edges_in, edge_role, edge_from, edge_to, edge_source, edge_target, edge_at, joined}
 use Rattle.models.specs.Models.{WellFormed, described}
-use Rattle.models.specs.Pairs.{PairIncluded, Shortcut, Shortened}
-use Rattle.models.specs.Searching.{LeaveFrom}
-use Rattle.models.proofs.EdgeFacts.{joined_out, joined_in, Joined, all_joined}
+use Rattle.models.specs.Pairs.{PairIncluded, PairContinued}
+use Rattle.models.proofs.EdgeFacts.{joined_out, joined_in}
 
 -- edge i is a pair of role r that leads from x to y
 pub record IsPair (es : List ℕ) (i r x y : ℕ) : Type 0 where
@@ -48,13 +46,6 @@ module _ (m : Model) where
       go true = here
       go false = here
 
-  -- the role name a is transitive; it, or its inverse, leads from x to y
-  abbrev Chained : ℕ → Type 0
-  Chained a = (x y z : ℕ) → T (joined es a x y) → T (joined es a y z) → T (joined es a x z)
-
-  abbrev Leading : ℕ → Bool → ℕ → ℕ → Type 0
-  Leading a b x y = T (cond b (joined es a x y) (joined es a y x))
-
   module _ (formed : WellFormed m) where
     -- both ends of an edge are elements
     pub source_in_range : (r i : ℕ) → i < edges_in es → edge_source es r i < m.size
@@ -69,9 +60,6 @@ module _ (m : Model) where
     pub target_small : (r i : ℕ) → i < edges_in es → edge_target es r i < 256
     target_small r i k = let f = formed.sized.few_elements in let h = target_in_range r i k in omega arith
 
-    ends : (e : Edge) → Joined es e → Element (described m) e.from × Element (described m) e.to
-    ends = (all_joined (λ e. Element (described m) e.from × Element (described m) e.to) es).0 (λ k l. let g = formed.good_edges k l in (element m _ g.from_in_range, element m _ g.to_in_range))
-
     pub pairs_included : (r s : ℕ) → ((k : ℕ) → k < edges_in es → PairIncluded m r s (edge_at es k)) ↔ Includes (described m) r s
     pairs_included r s = (
       (λ f x y hx hy t.
@@ -80,34 +68,19 @@ module _ (m : Model) where
       λ f i k e. f _ _ (element m _ (source_in_range r i k)) (element m _ (target_in_range r i k)) (leads_in r i k e),
     )
 
-    -- A role is transitive exactly if its name is.
-    pub pairs_shortened : (r : ℕ) → ((k : ℕ) → k < edges_in es → Shortened m (r / 2) (edge_at es k)) ↔ IsTransitive (described m) r
-    pairs_shortened r = ((λ f x y z hx hy hz. from_name (eqb (r % 2) 0) (chained f) x y z), λ f. (all_joined (Shortened m (r / 2)) es).1 (shortens (to_name (eqb (r % 2) 0) f)))
-      where
-        from_name : (b : Bool) → Chained (r / 2) → (x y z : ℕ) → Leading (r / 2) b x y → Leading (r / 2) b y z → Leading (r / 2) b x z
-        from_name true f x y z u v = f x y z u v
-        from_name false f x y z u v = f z y x v u
+    -- a pair is one of elements
+    pub leads_small : (r x y : ℕ) → Leads (described m) r x y → (x < 256) × (y < 256)
+    leads_small r x y t = let (i, p) = leads_out r x y t in (subst (λ a. a < 256) p.source_is (source_small r i p.listed), subst (λ b. b < 256) p.target_is (target_small r i p.listed))
 
-        to_name : (b : Bool) → ((x y z : ℕ) → Element (described m) x → Element (described m) y → Element (described m) z → Leading (r / 2) b x y → Leading (r / 2) b y z → Leading (r / 2) b x z) → Chained (r / 2)
-        to_name true f x y z u v = let p = ends (record { role_name = r / 2; from = x; to = y }) u in f x y z p.0 p.1 (ends (record { role_name = r / 2; from = y; to = z }) v).1 u v
-        to_name false f x y z u v = let p = ends (record { role_name = r / 2; from = x; to = y }) u in f z y x (ends (record { role_name = r / 2; from = y; to = z }) v).1 p.1 p.0 v u
+    pub leads_none : (r x y : ℕ) → ((x < 256) × (y < 256) → ⊥) → leads (described m) r x y ≡ false
+    leads_none r x y n = false_from_ne_true (leads (described m) r x y) (λ e. n (leads_small r x y (subst T (sym e) tt)))
 
-        chained : ((k : ℕ) → k < edges_in es → Shortened m (r / 2) (edge_at es k)) → Chained (r / 2)
-        chained f x y z u v = (all_joined (λ g. g.role_name ≡ r / 2 → g.from ≡ y → T (joined es (r / 2) x g.to)) es).0
-            (λ j l. (all_joined (Shortened m (r / 2)) es).0 f (record { role_name = r / 2; from = x; to = y }) u refl j l) (record { role_name = r / 2; from = y; to = z }) v refl refl
-
-        shortens : Chained (r / 2) → (e : Edge) → Joined es e → Shortened m (r / 2) e
-        shortens f e t same j l q g = subst (λ b. T (joined es b e.from (edge_to es j))) (sym same)
-            (f e.from e.to (edge_to es j) (subst (λ b. T (joined es b e.from e.to)) same t)
-            (subst (λ b. T (joined es b e.to (edge_to es j))) (q ∙ same) (subst (λ x. T (joined es (edge_role es j) x (edge_to es j))) g (joined_in es j l))))
-
--- an edge has its shortcuts with the edges that lead from its end, and so with all
-pub shortened : (m : Model) (a : ℕ) (e : Edge) (chunks : List (List ℕ)) (leave : LeaveFrom m.edges.now a e.to chunks) → e.role_name ≡ a →
-    ((k : ℕ) → k < length chunks → Shortcut m e (edge_at m.edges.now (leave.start + k))) ↔ Shortened m a e
-shortened m a e chunks leave same = (
-  (λ f _ j l q g.
-      let k = leave.complete j l (q ∙ same) g in
-      let p : leave.start + (j - leave.start) ≡ j = omega arith in
-      subst (λ i. Shortcut m e (edge_at m.edges.now i)) p (f (j - leave.start) (omega arith)) q g),
-  λ f k l. let w = leave.within in f same (leave.start + k) (omega arith),
-)
+    pub pairs_continued : (r : ℕ) → ((k : ℕ) → k < edges_in es → PairContinued m r r (edge_at es k)) ↔ IsTransitive (described m) r
+    pairs_continued r = (
+      (λ f x y z hx hy hz t u.
+          let (i, p) = leads_out r x y t in
+          subst (λ a. Leads (described m) r a z) p.source_is (f i p.listed p.role_is z (leads_small r y z u).1 (subst (λ b. Leads (described m) r b z) (sym p.target_is) u))),
+      λ f i k e z h u.
+          let (j, q) = leads_out r _ z u in
+          f _ _ z (element m _ (source_in_range r i k)) (element m _ (target_in_range r i k)) (subst (λ b. Element (described m) b) q.target_is (element m _ (target_in_range r j q.listed))) (leads_in r i k e) u,
+    )

@@ -2,7 +2,6 @@ pub mod Firsts
 pub mod Items
 pub mod Models
 pub mod FormProps
-pub mod Searching
 pub mod Pairs
 pub mod Evaluation
 pub mod Judging

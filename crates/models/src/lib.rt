@@ -3,8 +3,8 @@
 mod evaluation;
 mod form;
 mod items;
+mod pairs;
 mod role_axioms;
-mod search;
 mod verdict;
 
 ghost use Rattle.std.specs.Prelude.{◌*◌, ◌≤◌, length};

@@ -1,79 +1,51 @@
-ghost use Rattle.std.specs.Prelude.{◌≡◌, T, ◌↔◌, length, slice_index_or};
+ghost use Rattle.std.specs.Prelude.{T, ◌↔◌, length, slice_index_or};
 ghost use Rattle.logic.specs.declared.role.RoleAxiom.TheVariants.{Inclusion};
-ghost use Rattle.logic.specs.Interpretations.{leads, Includes, IsTransitive, MeetsRoleAxiom};
+ghost use Rattle.logic.specs.Interpretations.{Includes, IsTransitive, MeetsRoleAxiom};
 ghost use Rattle.models.specs.Firsts.{First};
 ghost use Rattle.models.specs.Models.{described};
-ghost use Rattle.models.specs.Pairs.{PairIncluded, Shortcut, Shortened};
+ghost use Rattle.models.specs.Pairs.{PairIncluded, PairContinued};
 
 use crate::form::Formed;
 use crate::items::Edge;
+use crate::pairs::Pairs;
 use logic::role::RoleAxiom;
 
+// Whether an edge, if it is a pair of role `r`, is one of these pairs.
+fn is_pair_included(pairs: &Pairs, r: u16, edge: Edge) -> bool
+    ensures { T result ↔ PairIncluded pairs.now.formed.model.now r pairs.now.role edge }
+{
+    edge.role_name != r / 2 || pairs.has(edge.source(r), edge.target(r))
+}
+
+// Whether an edge, if it is a pair of role `r`, goes on by these pairs in one step.
+fn is_pair_continued(pairs: &Pairs, r: u16, edge: Edge) -> bool
+    ensures { T result ↔ PairContinued pairs.now.formed.model.now r pairs.now.role edge }
+{
+    edge.role_name != r / 2 || pairs.leads_on(edge.source(r), edge.target(r))
+}
+
 impl Formed<'_> {
-    // Whether a role leads from an element to another.
-    fn leads(&self, role: u16, from: u16, to: u16) -> bool
-        ensures { result ≡ leads (described self.now.model.now) role from to }
-    {
-        let (from, to) = if role % 2 == 0 {
-            (from, to)
-        } else {
-            (to, from)
-        };
-        self.has_edge(Edge {
-            role_name: role / 2,
-            from,
-            to,
-        })
-    }
-
-    // Whether an edge, if it is a pair of role `r`, is a pair of role `s`.
-    fn is_pair_included(&self, r: u16, s: u16, edge: Edge) -> bool
-        ensures { T result ↔ PairIncluded self.now.model.now r s edge }
-    {
-        edge.role_name != r / 2 || self.leads(s, edge.source(r), edge.target(r))
-    }
-
     // Whether every pair of role `r` is a pair of role `s`.
     fn is_included(&self, r: u16, s: u16) -> bool
         ensures { T result ↔ Includes (described self.now.model.now) r s }
     {
+        let pairs = Pairs::of(*self, s);
         self.model
             .edge_chunks()
             .iter()
-            .all(|bytes| self.is_pair_included(r, s, Edge::from(*bytes)))
+            .all(|bytes| is_pair_included(&pairs, r, Edge::from(*bytes)))
     }
 
-    // Whether one edge makes the steps of two, if the second goes on from the first.
-    fn has_shortcut(&self, first: Edge, second: Edge) -> bool
-        ensures { T result ↔ Shortcut self.now.model.now first second }
-    {
-        second.role_name != first.role_name
-            || second.from != first.to
-            || self.has_edge(Edge {
-                to: second.to,
-                ..first
-            })
-    }
-
-    // Whether an edge, if it is of this role name, has all its shortcuts.
-    fn is_shortened(&self, role_name: u16, edge: Edge) -> bool
-        ensures { T result ↔ Shortened self.now.model.now role_name edge }
-    {
-        edge.role_name != role_name
-            || self
-                .edges_from(role_name, edge.to)
-                .iter()
-                .all(|bytes| self.has_shortcut(edge, Edge::from(*bytes)))
-    }
-
-    // Whether a role is transitive. It is so exactly if its name is.
+    // Whether a role is transitive.
     fn is_transitive(&self, role: u16) -> bool
         ensures { T result ↔ IsTransitive (described self.now.model.now) role }
     {
-        self.model
-            .edge_chunks()
-            .iter()
-            .all(|bytes| self.is_shortened(role / 2, Edge::from(*bytes)))
+        let pairs = Pairs::of(*self, role);
+        self.model.edge_chunks().iter().all(|bytes| is_pair_continued(
+            &pairs,
+            role,
+            Edge::from(*bytes),
+        ))
     }
 
     // Whether the model meets a role axiom.

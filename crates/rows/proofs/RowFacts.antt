@@ -36,7 +36,7 @@ full_bit n e h = bit_ones (min 64 (n - 64 * (e / 64))) (e % 64) ∙ same_test (e
         (cases_lt a b)
 
 -- element e of row c is number 256c + e of all the words together
-contains_has : (rows : List ℕ) (c e : ℕ) → e < 256 → contains rows c e ≡ has rows (256 * c + e)
+pub contains_has : (rows : List ℕ) (c e : ℕ) → e < 256 → contains rows c e ≡ has rows (256 * c + e)
 contains_has rows c e h = ap₂ (λ i j. bit (get_or rows i 0) j) (let p : 4 * c + e / 64 ≡ (256 * c + e) / 64 = omega arith in p) (let p : e % 64 ≡ (256 * c + e) % 64 = omega arith in p)
 
 -- a row with one element more

@@ -11,7 +11,7 @@ use std::array;
 // row is made of others of the same slice, so a row is a place in it.
 
 // The words of row `c`.
-fn row(rows: &[u64], c: usize) -> [u64; 4]
+pub fn row(rows: &[u64], c: usize) -> [u64; 4]
     requires { HasRow rows.now c }
     ensures { IsRow rows.now c result }
 {
