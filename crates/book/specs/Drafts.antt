@@ -41,7 +41,10 @@ unfit k v ls f x = first (
     cond (nat_lt 0 (k.cites f.rule)) (least_outside (label_of ls f.m) (conclusion k v f x 0)) None
     ∷ cond (nat_lt 1 (k.cites f.rule)) (least_outside (label_of ls f.n) (conclusion k v f x 1)) None ∷ [])
 
--- what filing a draft checks, in this order, where there is room for so many lines
+-- Filing a draft checks four groups of rows, one behind the other: numbers in range, entries that stand, room and order, and
+-- the licence.
+
+-- the rule is in the bank, and what it doesn't use is 0
 abbrev pub range_rows : Calculus → Draft → List (Option Refusal)
 range_rows k f =
     when (not (k.has f.rule)) (Range 0)
@@ -52,26 +55,28 @@ range_rows k f =
 abbrev pub principal_rows : ℕ → Principals → List (Option Refusal)
 principal_rows count on = when (nat_le count on.p) (Absent 1) ∷ when (nat_le count on.q) (Absent 2) ∷ when (nat_le count on.s) (Absent 3) ∷ []
 
+-- what the draft names stands
 abbrev pub absent_rows : Calculus → Vocabulary → List Line → Draft → List (Option Refusal)
 absent_rows k v ls f =
-    when (nat_le (length (concepts v)) f.on.p) (Absent 1)
-    ∷ when (nat_le (length (concepts v)) f.on.q) (Absent 2)
-    ∷ when (nat_le (length (concepts v)) f.on.s) (Absent 3)
-    ∷ when (nat_lt 0 (k.cites f.rule) && nat_le (length ls) f.m) (Absent 4)
+    principal_rows (length (concepts v)) f.on
+    ++ when (nat_lt 0 (k.cites f.rule) && nat_le (length ls) f.m) (Absent 4)
     ∷ when (nat_lt 1 (k.cites f.rule) && nat_le (length ls) f.n) (Absent 5)
     ∷ with (λ i. Absent (i + 6)) (absent_at (length (concepts v)) (members f)) ∷ []
 
+-- the step applies, and each cited line's label lies within its conclusion
 abbrev pub licence_rows : Calculus → Vocabulary → List Line → Draft → List (Option Refusal)
 licence_rows k v ls f =
     when (not (k.applies f.rule v f.on (label f))) (Inapplicable f.rule)
     ∷ with Unlicensed (unfit k v ls f (label f)) ∷ []
 
+-- a line is free, where there is room for so many, and the label rises
 abbrev pub late_rows : Calculus → Vocabulary → List Line → ℕ → Draft → List (Option Refusal)
 late_rows k v ls room f =
     when (nat_le room (length ls)) (Full room)
     ∷ with (λ i. Order (i + 6)) (falling_at (members f))
     ∷ licence_rows k v ls f
 
+-- all of them, in this order
 abbrev pub draft_rows : Calculus → Vocabulary → List Line → ℕ → Draft → List (Option Refusal)
 draft_rows k v ls room f = range_rows k f ++ (absent_rows k v ls f ++ late_rows k v ls room f)
 

@@ -19,10 +19,11 @@ cited_lines l = cited l.step.cited
 abbrev pub citing : ℕ → ℕ → ℕ → Cited
 citing count m n = cond (count == 0) Nothing (cond (count == 1) (One m) (Two m n))
 
--- the label of line k; the empty one if there is no such line
+-- a line with an empty label, where there is none
 abbrev pub blank : Line
 blank = record { step = record { rule = 0; on = record { p = 0; q = 0; s = 0 }; cited = Nothing }; label = replicate 16 0 }
 
+-- the label of line k; the empty one if there is no such line
 abbrev pub label_of : List Line → ℕ → List ℕ
 label_of ls k = (slice_index_or ls k blank).label
 

@@ -12,8 +12,8 @@ use labels::rows::first_outside;
 use refusals::Refusal;
 use vocabulary::Vocabulary;
 
-// A line as it is handed over: a step, the lines that it cites (0 where its rule cites none), and the members of its
-// label, two bytes for each.
+/// A line as it is handed over: a step, the lines that it cites (0 where its rule cites none), and the members of its
+/// label, two bytes for each.
 #[derive(Clone, Copy)]
 pub struct Draft<'m> {
     pub rule: u16,
@@ -114,7 +114,7 @@ fn first_unfit<B: Bank>(
     None
 }
 
-// The line that a draft becomes, where `room` lines can stand; or why it is refused.
+/// The line that a draft becomes, where `room` lines can stand; or why it is refused.
 pub fn check<B: Bank>(
     bank: &B,
     v: &Vocabulary,
@@ -154,8 +154,8 @@ pub fn check<B: Bank>(
     })
 }
 
-// That no row of the table speaks against a draft says exactly that it is admitted, licence and all. A call of it does
-// nothing; that it is proved says that it holds.
+/// That no row of the table speaks against a draft says exactly that it is admitted, licence and all. A call of it does
+/// nothing; that it is proved says that it holds.
 pub fn rows_are_right()
     ensures { RowsAreRight }
 {}

@@ -4,7 +4,7 @@ ghost use Rattle.book.specs.Lines.{cited_lines, citing};
 use calculus::rule::Principals;
 use register::entry::Entry;
 
-// The lines that a step cites, in the order of its rule's conclusions.
+/// The lines that a step cites, in the order of its rule's conclusions.
 #[derive(Clone, Copy, Default)]
 pub enum Cited {
     #[default]
@@ -14,7 +14,7 @@ pub enum Cited {
 }
 
 impl Cited {
-    // The first `count` of the two lines.
+    /// The first `count` of the two lines.
     pub fn first(count: u8, m: u16, n: u16) -> Cited
         ensures { result ≡ citing count m n }
     {
@@ -26,7 +26,7 @@ impl Cited {
     }
 }
 
-// One step of a tableau: a rule, the concepts that it names, and the lines that it cites.
+/// One step of a tableau: a rule, the concepts that it names, and the lines that it cites.
 #[derive(Clone, Copy, Default)]
 pub struct Step {
     pub rule: u16,
@@ -34,7 +34,7 @@ pub struct Step {
     pub cited: Cited,
 }
 
-// A line of the book: a label, as a row with a bit for each concept, and the step by which no element has all of it.
+/// A line of the book: a label, as a row with a bit for each concept, and the step by which no element has all of it.
 #[derive(Clone, Copy, Default)]
 pub struct Line {
     pub step: Step,

@@ -9,7 +9,7 @@ use calculus::rule::Principals;
 use labels::members::{first_absent, first_falling};
 use refusals::Refusal;
 
-// Whether a concept, a line or a claim stands, where `count` of them do; its number has this position in its call.
+/// Whether a concept, a line or a claim stands, where `count` of them do; its number has this position in its call.
 pub fn check_stands(number: u16, count: usize, position: u8) -> Result<(), Refusal>
     ensures { Passed (when (nat_le count number) (Absent position) ∷ []) result }
 {
@@ -20,7 +20,7 @@ pub fn check_stands(number: u16, count: usize, position: u8) -> Result<(), Refus
     }
 }
 
-// Whether the concepts that a step names stand, where `count` concepts do; they have the positions 1 to 3 of their call.
+/// Whether the concepts that a step names stand, where `count` concepts do; they have the positions 1 to 3 of their call.
 pub fn check_principals(on: Principals, count: usize) -> Result<(), Refusal>
     ensures { Passed (principal_rows count on) result }
 {
@@ -29,14 +29,14 @@ pub fn check_principals(on: Principals, count: usize) -> Result<(), Refusal>
     check_stands(on.s, count, 3)
 }
 
-// Whether all members of a label stand, where `count` concepts do; the label begins at position `from` of its call.
+/// Whether all members of a label stand, where `count` concepts do; the label begins at position `from` of its call.
 pub fn check_standing(members: &[u8], count: usize, from: u8) -> Result<(), Refusal>
     ensures { Passed (with (λ i. Absent (i + from)) (absent_at count (numbers members.now)) ∷ []) result }
 {
     first_absent(members, count).map_or(Ok(()), |i| Err(Refusal::Absent(i + from as usize)))
 }
 
-// Whether each member of a label is above the one before it.
+/// Whether each member of a label is above the one before it.
 pub fn check_rising(members: &[u8], from: u8) -> Result<(), Refusal>
     ensures { Passed (with (λ i. Order (i + from)) (falling_at (numbers members.now)) ∷ []) result }
 {

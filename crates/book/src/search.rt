@@ -11,7 +11,7 @@ fn is_within(y: &[u64; 16], x: &[u64; 16]) -> bool
     first_outside(y, x).is_none()
 }
 
-// The first line whose label lies within the row `x`.
+/// The first line whose label lies within the row `x`.
 pub fn find_within(lines: &[Line], x: &[u64; 16]) -> Option<usize>
     ensures { result ≡ first_within lines.now x.now }
 {

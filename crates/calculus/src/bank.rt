@@ -7,32 +7,32 @@ ghost use Rattle.calculus.specs.Banks.{alone_lawful, beside_lawful};
 use crate::premise::Premise;
 use crate::rule::Rule;
 
-// A bank of rules: one rule, or two banks side by side. It answers by the leftmost rule with the step's number; with a
-// number that no rule has, no step applies. It is lent to the calls that need one.
+/// A bank of rules: one rule, or two banks side by side. It answers by the leftmost rule with the step's number; with a
+/// number that no rule has, no step applies. It is lent to the calls that need one.
 pub trait Bank {
     // what its rules say
     ghost calculus: { Self → Calculus };
 
-    // Whether some rule has this number.
+    /// Whether some rule has this number.
     fn has(&self, rule: u16) -> bool
         ensures { result ≡ (calculus self.now).has rule };
 
-    // How many lines a step by this rule cites.
+    /// How many lines a step by this rule cites.
     fn cites(&self, rule: u16) -> u8
         ensures { result ≡ (calculus self.now).cites rule };
 
-    // Whether the step applies.
+    /// Whether the step applies.
     fn applies(&self, rule: u16, at: &Premise) -> bool
         ensures { result ≡ (calculus self.now).applies rule at.now.vocabulary.now at.now.on at.now.label.now };
 
-    // Conclusion `i`, as a row.
+    /// Conclusion `i`, as a row.
     fn conclusion(&self, rule: u16, at: &Premise, i: u8) -> [u64; 16]
         ensures { Row result ((calculus self.now).concludes rule at.now.vocabulary.now at.now.on at.now.label.now i) };
 
     ghost lawful: { (b : Self) → LawfulCalculus (calculus b) };
 }
 
-// One rule as a bank.
+/// One rule as a bank.
 #[derive(Default, Drop)]
 pub struct Single<R> {
     pub rule: R,
@@ -52,11 +52,11 @@ impl<R: Rule> Bank for Single<R> {
     }
 
     fn applies(&self, rule: u16, at: &Premise) -> bool {
-        rule == R::RULE_NUMBER && self.rule.applies(at)
+        self.has(rule) && self.rule.applies(at)
     }
 
     fn conclusion(&self, rule: u16, at: &Premise, i: u8) -> [u64; 16] {
-        if rule == R::RULE_NUMBER {
+        if self.has(rule) {
             self.rule.conclusion(at, i)
         } else {
             [0; 16]
@@ -64,8 +64,8 @@ impl<R: Rule> Bank for Single<R> {
     }
 }
 
-// Two banks side by side. Each question asks the side that has the rule; to pick that side once would take a `dyn Bank`,
-// which is no plainer for three questions.
+/// Two banks side by side. Each question asks the side that has the rule; to pick that side once would take a `dyn Bank`,
+/// which is no plainer for three questions.
 #[derive(Default, Drop)]
 pub struct Pair<L, R> {
     pub left: L,

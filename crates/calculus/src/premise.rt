@@ -9,7 +9,7 @@ use bits;
 use logic::concept::Concept;
 use vocabulary::Vocabulary;
 
-// What a step starts from: what has been filed, the concepts that the step names, and the label that it is taken at.
+/// What a step starts from: what has been filed, the concepts that the step names, and the label that it is taken at.
 #[derive(Clone, Copy)]
 pub struct Premise<'s, 'v> {
     pub vocabulary: &'s Vocabulary<'v>,
@@ -18,14 +18,14 @@ pub struct Premise<'s, 'v> {
 }
 
 impl<'s, 'v> Premise<'s, 'v> {
-    // Concept `c`, if it stands.
+    /// Concept `c`, if it stands.
     pub fn concept(&self, c: u16) -> Option<Concept>
         ensures { result ≡ concept_at self.now.vocabulary.now c }
     {
         self.vocabulary.concept(c)
     }
 
-    // Whether concept `c` is in the label.
+    /// Whether concept `c` is in the label.
     pub fn has(&self, c: u16) -> bool
         ensures { result ≡ has self.now.label.now c }
     {
@@ -33,14 +33,14 @@ impl<'s, 'v> Premise<'s, 'v> {
         bits::has(label, c as usize)
     }
 
-    // Whether p and q are mates.
+    /// Whether p and q are mates.
     pub fn mates(&self) -> bool
         ensures { result ≡ are_mates self.now.vocabulary.now.mates self.now.on.p self.now.on.q }
     {
         self.vocabulary.are_mates(self.on.p, self.on.q)
     }
 
-    // Concept p, if the step names it alone and it is in the label.
+    /// Concept p, if the step names it alone and it is in the label.
     pub fn sole_principal(&self) -> Option<Concept>
         ensures { result ≡ sole_principal self.now }
     {

@@ -8,7 +8,7 @@ use crate::premise::Premise;
 use bits;
 use labels::rows::next_from;
 
-// The concepts that a step names, by number; one that its rule doesn't use is 0.
+/// The concepts that a step names, by number; one that its rule doesn't use is 0.
 #[derive(Clone, Copy, Debug, Default, PartialEq, Eq)]
 pub struct Principals {
     pub p: u16,
@@ -17,7 +17,7 @@ pub struct Principals {
 }
 
 impl Principals {
-    // Whether the step names p alone.
+    /// Whether the step names p alone.
     pub fn p_alone(self) -> bool
         ensures { result ≡ p_alone self }
     {
@@ -25,15 +25,15 @@ impl Principals {
     }
 }
 
-// A rule of the calculus. It says when a step applies to a label, and which standing concepts its conclusions have. It
-// refuses nothing, and asking alters nothing.
+/// A rule of the calculus. It says when a step applies to a label, and which standing concepts its conclusions have. It
+/// refuses nothing, and asking alters nothing.
 pub trait Rule {
-    // Its number.
+    /// Its number.
     const RULE_NUMBER: u16;
 
     ghost RULE_NUMBER: { ℕ };
 
-    // How many lines a step by it cites, which is how many conclusions it has: 0 to 2.
+    /// How many lines a step by it cites, which is how many conclusions it has: 0 to 2.
     const CITED_LINES: u8;
 
     ghost CITED_LINES: { ℕ };
@@ -41,22 +41,22 @@ pub trait Rule {
     // what the rule says
     ghost schema: { Self → Schema };
 
-    // Whether the step applies.
+    /// Whether the step applies.
     fn applies(&self, at: &Premise) -> bool
         ensures { result ≡ (schema self.now).applies at.now.vocabulary.now at.now.on at.now.label.now };
 
-    // Conclusion `i`, as a row.
+    /// Conclusion `i`, as a row.
     fn conclusion(&self, at: &Premise, i: u8) -> [u64; 16]
         ensures { Row result ((schema self.now).concludes at.now.vocabulary.now at.now.on at.now.label.now i) };
 
-    // Whether the step applies and has a conclusion `i`.
+    /// Whether the step applies and has a conclusion `i`.
     fn has_conclusion(&self, at: &Premise, i: u8) -> bool
         ensures { result ≡ (nat_lt i CITED_LINES && (schema self.now).applies at.now.vocabulary.now at.now.on at.now.label.now) }
     {
         i < Self::CITED_LINES && self.applies(at)
     }
 
-    // Whether concept `c` is in conclusion `i`.
+    /// Whether concept `c` is in conclusion `i`.
     fn concludes(&self, at: &Premise, i: u8, c: u16) -> bool
         ensures { result ≡ (schema self.now).concludes at.now.vocabulary.now at.now.on at.now.label.now i c }
     {
@@ -64,7 +64,7 @@ pub trait Rule {
         bits::has(&row, c as usize)
     }
 
-    // The next concept from `c` upward in conclusion `i`.
+    /// The next concept from `c` upward in conclusion `i`.
     fn next(&self, at: &Premise, i: u8, c: u16) -> Option<u16>
         ensures { result ≡ least 1024 (λ k. nat_le c k && (schema self.now).concludes at.now.vocabulary.now at.now.on at.now.label.now i k) }
     {

@@ -7,7 +7,7 @@ ghost use Rattle.claims.specs.Claiming.{filed, claim_at, is_unsettled, tallied, 
 
 use register::bounded::Bounded;
 
-// What has become of a claim.
+/// What has become of a claim.
 #[derive(Clone, Copy, Debug, PartialEq, Eq)]
 pub enum Status {
     Open,
@@ -17,7 +17,7 @@ pub enum Status {
     Inhabited,
 }
 
-// A claim: a label, as a row, and what has become of it.
+/// A claim: a label, as a row, and what has become of it.
 #[derive(Clone, Copy)]
 pub struct Claim {
     pub label: [u64; 16],
@@ -25,7 +25,7 @@ pub struct Claim {
 }
 
 impl Claim {
-    // Whether it is neither empty nor inhabited yet.
+    /// Whether it is neither empty nor inhabited yet.
     pub fn is_open(&self) -> bool
         ensures { result ≡ is_unsettled self.now.status }
     {
@@ -33,14 +33,14 @@ impl Claim {
     }
 }
 
-// The claims, in filing order: at most 256.
+/// The claims, in filing order: at most 256.
 #[derive(Drop)]
 pub struct Claims {
     list: Bounded<Claim, 256>,
 }
 
 impl Claims {
-    // No claim.
+    /// No claim.
     pub fn new() -> Claims
         ensures { filed result ≡ [] }
     {
@@ -52,7 +52,7 @@ impl Claims {
         }
     }
 
-    // The claims, by number.
+    /// The claims, by number.
     pub fn list(&self) -> &[Claim]
         ensures is { result.now ≡ filed self.now }
         ensures few { length result.now ≤ 256 }
@@ -60,28 +60,21 @@ impl Claims {
         self.list.list()
     }
 
-    // How many claims there are.
-    pub fn len(&self) -> usize
-        ensures { result ≡ length (filed self.now) }
-    {
-        self.list().len()
-    }
-
-    // The claim with this number, if there is one.
+    /// The claim with this number, if there is one.
     pub fn get(&self, number: u16) -> Option<Claim>
         ensures { MatchOption result (length (filed self.now) ≤ number) (λ c. (number < length (filed self.now)) × (c ≡ claim_at self.now number)) }
     {
         self.list().get(number as usize).copied()
     }
 
-    // Whether no claim more can be filed.
+    /// Whether no claim more can be filed.
     pub fn is_full(&self) -> bool
         ensures { result ≡ nat_le 256 (length (filed self.now)) }
     {
         self.list.is_full()
     }
 
-    // Files an open claim with this label; None if the list is full.
+    /// Files an open claim with this label; None if the list is full.
     pub fn add(&mut self, label: [u64; 16]) -> Option<usize>
         ensures { Added self.old self.new label result }
     {
@@ -91,7 +84,7 @@ impl Claims {
         })
     }
 
-    // Settles a claim, which keeps its label; None if there is none with this number.
+    /// Settles a claim, which keeps its label; None if there is none with this number.
     pub fn settle(&mut self, number: u16, status: Status) -> Option<()>
         ensures { Settled self.old self.new number status (is_some result) }
     {
@@ -110,7 +103,7 @@ impl Claims {
             .count()
     }
 
-    // The open, the empty and the inhabited claims.
+    /// The open, the empty and the inhabited claims.
     pub fn tally(&self) -> (usize, usize, usize)
         ensures { result ≡ (tallied Open (filed self.now), tallied Empty (filed self.now), tallied Inhabited (filed self.now)) }
     {

@@ -28,7 +28,7 @@ fn own_word(role: usize, k: usize) -> u64
     if k == role / 64 { 1 << (role % 64) } else { 0 }
 }
 
-// The closure of no inclusions. Every word is written, whatever the table held.
+/// The closure of no inclusions. Every word is written, whatever the table held.
 pub fn start(table: &mut [u64], roles: usize)
     requires square { Square table.old roles }
     requires few { roles < 2 ^ 32 }
@@ -41,7 +41,7 @@ pub fn start(table: &mut [u64], roles: usize)
     }
 }
 
-// Whether role `r` is below role `s`.
+/// Whether role `r` is below role `s`.
 pub fn below(table: &[u64], roles: usize, r: usize, s: usize) -> bool
     requires square { Square table.now roles }
     requires first { r < roles }
@@ -85,7 +85,7 @@ fn add_pair(table: &mut [u64], roles: usize, r: usize, s: usize)
     }
 }
 
-// One inclusion more: `r` below `s`, and so the inverse of `r` below the inverse of `s`.
+/// One inclusion more: `r` below `s`, and so the inverse of `r` below the inverse of `s`.
 pub fn include(table: &mut [u64], roles: usize, r: usize, s: usize)
     requires square { Square table.old roles }
     requires first { r < roles }

@@ -6,7 +6,7 @@ use docket::Docket;
 use intake::{Reply, take_file};
 use rules::table::house;
 
-// Hands a dossier to a docket with the ten rules, and prints the reply to each record and the tally.
+/// Hands a dossier to a docket with the ten rules, and prints the reply to each record and the tally.
 pub fn report(
     rt: &impl Print,
     docket: &mut Docket,

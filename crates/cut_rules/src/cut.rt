@@ -6,7 +6,7 @@ use calculus::premise::Premise;
 use calculus::rule::Rule;
 use schemas::conclusion::{extended, nothing};
 
-// Rule 7: p and q are mates. Conclusions: the label and p; the label and q.
+/// Rule 7: p and q are mates. Conclusions: the label and p; the label and q.
 #[derive(Default, Drop)]
 pub struct CutRule;
 

@@ -1,4 +1,4 @@
--- The calls that file and pair and seal: what each checks, what it does, and how it answers.
+-- The calls that file, pair, seal and close: what each checks, what it does, and how it answers.
 use Rattle.std.specs.Prelude.{◌≡◌, ℕ, ◌+◌, ◌/◌, true, not, ◌⊎◌, List, [], ◌∷◌, ◌++◌, length, Some, None, Ok, Err, Option, Result, nat_le, nat_lt}
 use Rattle.refusals.specs.declared.Refusal.{Refusal}
 use Rattle.refusals.specs.declared.Refusal.TheVariants.{Phase, Range, Absent, Full, Order, Unpaired, Closed, Outside}
@@ -113,8 +113,8 @@ Done (claim ms) d i e = Added d.claims e.claims (row ms) (Some i) × (e.vocabula
 Done (close_empty c n) d i e = Settled d.claims e.claims c Empty true × (i ≡ 0) × (e.vocabulary ≡ d.vocabulary) × (e.book ≡ d.book)
 Done (close_inhabited c m old new) d i e = Settled d.claims e.claims c Inhabited true × (i ≡ 0) × (e.vocabulary ≡ d.vocabulary) × (e.book ≡ d.book)
 
--- how a model is judged for a claim, once the rows above are clear: by the meaning of its label, in every vocabulary that
--- keeps what vocabularies keep
+-- how a model is judged for a claim, once the rows above are clear: by the meaning of its label, in every vocabulary that is
+-- `Kept`, where the label's concepts stand
 abbrev pub JudgedFor : Docket → ℕ → Model → List ℕ → Result (Unit {0}) Refusal → List ℕ → Type 0
 JudgedFor d c m old r new =
     Kept d.vocabulary → LabelStands (concepts d.vocabulary) (claim_at d.claims c).label → Judged d.vocabulary (claim_at d.claims c).label m old r new
@@ -146,8 +146,8 @@ Refuses (close_empty c n) d x = refusal (close_empty c n) d ≡ Some x
 Refuses (close_inhabited c m old new) d x =
     ((refusal (close_inhabited c m old new) d ≡ Some x) × (new ≡ old)) ⊎ ((refusal (close_inhabited c m old new) d ≡ None) × JudgedFor d c m old (Err x) new)
 
--- THE CONTRACT of every call: if nothing speaks against it, it is done; else the first refusal is returned, and the docket
--- and all of its memory are as they were
+-- THE CONTRACT of every call: if nothing speaks against it, it is done; else the first refusal is returned, and the docket,
+-- with its memory, is as it was. What becomes of the working rows, `Refuses` and `JudgedFor` say.
 abbrev pub Acts : Call → Docket → Result ℕ Refusal → Docket → Type 0
 Acts c d (Ok i) e = Clears c d × Done c d i e × (e.phase ≡ after d.phase (kind_of c))
 Acts c d (Err x) e = Refuses c d x × (e ≡ d)

@@ -6,6 +6,7 @@ use Rattle.refusals.specs.Checks.{when, with, first}
 use Rattle.file_bytes.specs.Bytes.{numbers}
 use Rattle.labels.specs.Labels.{Row, row, absent_at, falling_at}
 use Rattle.calculus.specs.Calculi.{Calculus}
+use Rattle.book.specs.Drafts.{principal_rows}
 use Rattle.docket.specs.declared.Docket.{Docket}
 use Rattle.docket.specs.declared.conclusion.Inquiry.{Inquiry}
 use Rattle.docket.specs.Phases.{is_open}
@@ -25,9 +26,7 @@ early_rows k d f words =
     ∷ when (not (k.has f.rule)) (Range 0)
     ∷ when (nat_le (k.cites f.rule) f.index) (Range 4)
     ∷ when (nat_lt words 16) (Range (5 + length f.members.now / 2))
-    ∷ when (nat_le (count d) f.on.p) (Absent 1)
-    ∷ when (nat_le (count d) f.on.q) (Absent 2)
-    ∷ when (nat_le (count d) f.on.s) (Absent 3) ∷ []
+    ∷ principal_rows (count d) f.on
 
 abbrev pub Inquired : Calculus → Docket → Inquiry → ℕ → Result ℕ Refusal → Type 0
 Inquired k d f words (Ok i) = (first (early_rows k d f words) ≡ None) × (i ≡ f.index) × (16 ≤ words)

@@ -17,7 +17,7 @@ use refusals::Refusal;
 const MOST_CLAIMS: usize = 256;
 
 impl<'a> Docket<'a> {
-    // Files a claim of the label with these members.
+    /// Files a claim of the label with these members.
     pub fn file_claim(&mut self, members: &[u8]) -> Answer
         ensures { Acts (claim (numbers members.now)) self.old result self.new }
     {
@@ -32,7 +32,7 @@ impl<'a> Docket<'a> {
             .ok_or(Refusal::Full(MOST_CLAIMS))
     }
 
-    // Closes a claim as empty by a standing line whose label lies within its own.
+    /// Closes a claim as empty by a standing line whose label lies within its own.
     pub fn close_empty(&mut self, claim: u16, line: u16) -> Answer
         ensures { Acts (close_empty claim line) self.old result self.new }
     {
@@ -52,9 +52,9 @@ impl<'a> Docket<'a> {
             .ok_or(Refusal::Absent(0))
     }
 
-    // Closes a claim as inhabited by a model that meets the axioms and whose point lies in all of its label. The rows are
-    // working memory, four words for each standing concept. What it shares with `close_empty` lies around other checks, and
-    // would be functions with halves of a contract.
+    /// Closes a claim as inhabited by a model that meets the axioms and whose point lies in all of its label. The rows are
+    /// working memory, four words for each standing concept. What it shares with `close_empty` lies around other checks, and
+    /// would be functions with halves of a contract.
     pub fn close_inhabited(&mut self, claim: u16, model: &Model, rows: &mut [u64]) -> Answer
         ensures { Acts (close_inhabited claim model.now rows.old rows.new) self.old result self.new }
     {
@@ -73,7 +73,7 @@ impl<'a> Docket<'a> {
             .ok_or(Refusal::Absent(0))
     }
 
-    // The open, the empty and the inhabited claims.
+    /// The open, the empty and the inhabited claims.
     pub fn tally(&self) -> (usize, usize, usize)
         ensures { result ≡ (tallied Open (filed self.now.claims), tallied Empty (filed self.now.claims), tallied Inhabited (filed self.now.claims)) }
     {

@@ -9,7 +9,7 @@ use calculus::rule::Principals;
 use labels::members::row_of;
 use refusals::Refusal;
 
-// Which conclusion is asked for: of a rule at its principals, the one with this index, for the label with these members.
+/// Which conclusion is asked for: of a rule at its principals, the one with this index, for the label with these members.
 #[derive(Clone, Copy)]
 pub struct Inquiry<'m> {
     pub rule: u16,
@@ -49,7 +49,7 @@ impl<'a> Docket<'a> {
         Ok(asked.index as u8)
     }
 
-    // Writes a conclusion into the first sixteen words of the memory: concept c is bit c mod 64 of word c div 64.
+    /// Writes a conclusion into the first sixteen words of the memory: concept c is bit c mod 64 of word c div 64.
     pub fn conclusion<B: Bank>(
         &self,
         bank: &B,

@@ -13,7 +13,7 @@ use refusals::Refusal;
 // The most names there can be.
 const NAMES: usize = 1024;
 
-// What one of the two numbers behind a tag is.
+/// What one of the two numbers behind a tag is.
 #[derive(Clone, Copy, Debug, PartialEq, Eq)]
 pub enum Use {
     Unused,
@@ -58,7 +58,7 @@ pub(crate) fn check_role(role: u16, position: u8) -> Result<(), Refusal>
     Use::Role.check_range(role, position)
 }
 
-// The concept that a tag and two numbers write, where `count` concepts stand.
+/// The concept that a tag and two numbers write, where `count` concepts stand.
 pub fn read_concept(count: usize, tag: u16, a: u16, b: u16) -> Result<Concept, Refusal>
     ensures { Read count tag a b result }
 {

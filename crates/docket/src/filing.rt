@@ -34,7 +34,7 @@ impl<'a> Docket<'a> {
         }
     }
 
-    // Files that role `r` is below role `s`.
+    /// Files that role `r` is below role `s`.
     pub fn file_inclusion(&mut self, r: u16, s: u16) -> Answer
         ensures { Acts (inclusion r s) self.old result self.new }
     {
@@ -46,7 +46,7 @@ impl<'a> Docket<'a> {
             .ok_or(Refusal::Full(MOST_AXIOMS))
     }
 
-    // Files that role `r` is transitive.
+    /// Files that role `r` is transitive.
     pub fn file_transitivity(&mut self, r: u16) -> Answer
         ensures { Acts (transitivity r) self.old result self.new }
     {
@@ -57,7 +57,7 @@ impl<'a> Docket<'a> {
             .ok_or(Refusal::Full(MOST_AXIOMS))
     }
 
-    // Files the concept that a tag and two numbers write.
+    /// Files the concept that a tag and two numbers write.
     pub fn file_concept(&mut self, tag: u16, a: u16, b: u16) -> Answer
         ensures acts { Acts (concept tag a b) self.old result self.new }
         ensures stays { Reached self.old → MeansTheSame self.old.vocabulary self.new.vocabulary }
@@ -70,7 +70,7 @@ impl<'a> Docket<'a> {
             .map_err(|_| Refusal::Full(room))
     }
 
-    // Pairs two concepts as mates.
+    /// Pairs two concepts as mates.
     pub fn pair(&mut self, c: u16, d: u16) -> Answer
         ensures acts { Acts (pair c d) self.old result self.new }
         ensures right { PairingIsRight self.old c d result }
@@ -85,7 +85,7 @@ impl<'a> Docket<'a> {
         }
     }
 
-    // Files a concept as one that holds of every element.
+    /// Files a concept as one that holds of every element.
     pub fn file_axiom(&mut self, c: u16) -> Answer
         ensures { Acts (general c) self.old result self.new }
     {
@@ -96,7 +96,7 @@ impl<'a> Docket<'a> {
             .ok_or(Refusal::Full(MOST_AXIOMS))
     }
 
-    // Ends the filing of axioms.
+    /// Ends the filing of axioms.
     pub fn seal(&mut self) -> Answer
         ensures { Acts seal self.old result self.new }
     {
@@ -104,7 +104,7 @@ impl<'a> Docket<'a> {
         Ok(0)
     }
 
-    // Files a line, if the rules of the bank license it.
+    /// Files a line, if the rules of the bank license it.
     pub fn file_line<B: Bank>(&mut self, bank: &B, draft: &Draft) -> Answer
         ensures { Acts (line (B.Bank.calculus bank.now) draft.now) self.old result self.new }
     {

@@ -20,15 +20,15 @@ use refusals::Refusal;
 use register::store::Register;
 use vocabulary::Vocabulary;
 
-// The most concepts and the most lines that a host can ask for.
+/// The most concepts and the most lines that a host can ask for.
 pub const MOST_CONCEPTS: usize = 1024;
 
 pub const MOST_LINES: usize = 4096;
 
-// What a call answers: the new entry's number (0 where there is none), or a refusal.
+/// What a call answers: the new entry's number (0 where there is none), or a refusal.
 pub type Answer = Result<usize, Refusal>;
 
-// A docket: the vocabulary, the lines and the claims that stand, over memory that the host supplied.
+/// A docket: the vocabulary, the lines and the claims that stand, over memory that the host supplied.
 #[derive(Drop)]
 pub struct Docket<'a> {
     phase: Phase,
@@ -37,7 +37,7 @@ pub struct Docket<'a> {
     claims: Claims,
 }
 
-// An opening that was refused, with the host's memory as it was.
+/// An opening that was refused, with the host's memory as it was.
 #[derive(Drop)]
 pub struct Unopened<'a> {
     pub refusal: Refusal,
@@ -67,7 +67,7 @@ fn check_opening(
 }
 
 impl<'a> Docket<'a> {
-    // A new docket with these capacities over the host's memory for concepts and for lines.
+    /// A new docket with these capacities over the host's memory for concepts and for lines.
     pub fn open(
         concept_capacity: usize,
         line_capacity: usize,

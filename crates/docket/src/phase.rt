@@ -1,11 +1,11 @@
-// A docket is open until it is sealed.
+/// A docket is open until it is sealed.
 #[derive(Clone, Copy, Debug, PartialEq, Eq)]
 pub enum Phase {
     Open,
     Sealed,
 }
 
-// What a call is about, as far as the phase is concerned.
+/// What a call is about, as far as the phase is concerned.
 #[derive(Clone, Copy, Debug, PartialEq, Eq)]
 pub enum Kind {
     RoleAxiom,

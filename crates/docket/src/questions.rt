@@ -31,7 +31,7 @@ impl<'a> Docket<'a> {
         }
     }
 
-    // Whether role `r` is below role `s`.
+    /// Whether role `r` is below role `s`.
     pub fn is_below(&self, r: u16, s: u16) -> Result<bool, Refusal>
         ensures answered { Answered (below_rows self.now r s) (λ b. b ≡ is_below self.now.vocabulary.roles r s) result }
         ensures means { Reached self.now → OfValue (SaysBelow self.now r s) result }
@@ -42,7 +42,7 @@ impl<'a> Docket<'a> {
         Ok(self.vocabulary.is_below(r, s))
     }
 
-    // Whether role `r` is transitive.
+    /// Whether role `r` is transitive.
     pub fn is_transitive(&self, r: u16) -> Result<bool, Refusal>
         ensures answered { Answered (transitive_rows self.now r) (λ b. b ≡ is_transitive self.now.vocabulary.roles r) result }
         ensures means { Reached self.now → OfValue (SaysTransitive self.now r) result }
@@ -52,7 +52,7 @@ impl<'a> Docket<'a> {
         Ok(self.vocabulary.is_transitive(r))
     }
 
-    // The mate of a concept, or that there is none.
+    /// The mate of a concept, or that there is none.
     pub fn mate(&self, c: u16) -> Result<Option<u16>, Refusal>
         ensures answered { Answered (mate_rows self.now c) (λ m. m ≡ mate self.now.vocabulary.mates c) result }
         ensures means { Reached self.now → OfValue (SaysMate self.now c) result }
@@ -61,8 +61,8 @@ impl<'a> Docket<'a> {
         Ok(self.vocabulary.mate(c))
     }
 
-    // The first standing line whose label lies within the label with these members. The checks of a label are two, since
-    // filing a claim asks for room between them.
+    /// The first standing line whose label lies within the label with these members. The checks of a label are two, since
+    /// filing a claim asks for room between them.
     pub fn first_line(&self, members: &[u8]) -> Result<Option<usize>, Refusal>
         ensures { Answered (label_rows self.now (numbers members.now)) (λ k. k ≡ first_within (lines self.now) (row (numbers members.now))) result }
     {

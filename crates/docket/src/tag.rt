@@ -4,7 +4,7 @@ ghost use Rattle.docket.specs.Fields.{use_of_first, use_of_second};
 
 use crate::fields::Use;
 
-// The tag of a concept as it is filed: its outermost constructor.
+/// The tag of a concept as it is filed: its outermost constructor.
 #[derive(Clone, Copy, Debug, PartialEq, Eq)]
 pub enum Tag {
     Top,
@@ -17,7 +17,7 @@ pub enum Tag {
     Exists,
 }
 
-// No tag has this number.
+/// No tag has this number.
 #[derive(Clone, Copy, Debug, PartialEq, Eq)]
 pub struct UnknownTag(pub u16);
 
@@ -42,7 +42,7 @@ impl TryFrom<u16> for Tag {
 }
 
 impl Tag {
-    // What the first number behind the tag is.
+    /// What the first number behind the tag is.
     pub fn first(self) -> Use
         ensures { result ≡ use_of_first (tag_number self) }
     {
@@ -54,7 +54,7 @@ impl Tag {
         }
     }
 
-    // What the second number behind the tag is.
+    /// What the second number behind the tag is.
     pub fn second(self) -> Use
         ensures { result ≡ use_of_second (tag_number self) }
     {

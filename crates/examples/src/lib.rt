@@ -2,7 +2,7 @@
 
 ghost use Rattle.examples.specs.Table.{cases, AllHold};
 
-// The worked examples. A call of it does nothing; that it is proved says that every row of the table holds.
+/// The worked examples. A call of it does nothing; that it is proved says that every row of the table holds.
 pub fn examples_hold()
     ensures { AllHold cases }
 {}

@@ -2,14 +2,14 @@ ghost use Rattle.std.specs.Prelude.{◌≡◌};
 ghost use Rattle.std.specs.Iterator.{YieldsFirst, item_count};
 ghost use Rattle.file_bytes.specs.Bytes.{numbers};
 
-// The two-byte numbers of a part, one behind the other; a lone last byte is none.
+/// The two-byte numbers of a part, one behind the other; a lone last byte is none.
 #[derive(Drop)]
 pub struct Numbers<'b> {
     rest: &'b [u8],
 }
 
 impl<'b> Numbers<'b> {
-    // The numbers of these bytes.
+    /// The numbers of these bytes.
     pub fn of(bytes: &'b [u8]) -> Numbers<'b>
         ensures { result.rest ≡ bytes.entry }
     {

@@ -3,7 +3,7 @@
 pub mod iter;
 
 ghost use Rattle.std.specs.Prelude.{◌≡◌, slice_index};
-ghost use Rattle.file_bytes.specs.Bytes.{part, word, field};
+ghost use Rattle.file_bytes.specs.Bytes.{word, field};
 
 // The byte at this place; 0 behind the end.
 fn byte(bytes: &[u8], at: usize) -> u8
@@ -12,24 +12,16 @@ fn byte(bytes: &[u8], at: usize) -> u8
     bytes.get(at).copied().unwrap_or(0)
 }
 
-// The number in the two bytes from this place on, the low byte first.
+/// The number in the two bytes from this place on, the low byte first.
 pub fn word(bytes: &[u8], at: usize) -> u16
     ensures { result ≡ word bytes.now at }
 {
     u16::from_le_bytes([byte(bytes, at), byte(bytes, at.saturating_add(1))])
 }
 
-// The two-byte number with this index. Bytes that the part doesn't have count as 0.
+/// The two-byte number with this index. Bytes that the part doesn't have count as 0.
 pub fn field(bytes: &[u8], index: usize) -> u16
     ensures { result ≡ field bytes.now index }
 {
     word(bytes, index.saturating_mul(2))
-}
-
-// The bytes from this place on, `count` of them or as many as there are.
-pub fn cut(bytes: &[u8], from: usize, count: usize) -> &[u8]
-    ensures { result.now ≡ part bytes.now from count }
-{
-    let rest = &bytes[from.min(bytes.len())..];
-    &rest[..count.min(rest.len())]
 }

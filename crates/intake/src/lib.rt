@@ -16,14 +16,14 @@ use records::reader::{Reader, count};
 use records::record::{Frame, Record};
 use refusals::Refusal;
 
-// What a docket answered to a record of this kind, a number as the frame has it.
+/// What a docket answered to a record of this kind, a number as the frame has it.
 #[derive(Clone, Copy)]
 pub struct Reply {
     pub kind: u16,
     pub answer: Answer,
 }
 
-// Hands a record to the docket, with a bank of rules and working rows for models.
+/// Hands a record to the docket, with a bank of rules and working rows for models.
 pub fn take<B: Bank>(docket: &mut Docket, bank: &B, frame: &Frame, rows: &mut [u64]) -> Answer
     ensures { Takes (B.Bank.calculus bank.now) frame.now docket.old rows.old result docket.new rows.new }
 {
@@ -70,8 +70,8 @@ pub fn take<B: Bank>(docket: &mut Docket, bank: &B, frame: &Frame, rows: &mut [u
     }
 }
 
-// Hands a whole file to the docket, record by record, and writes the reply to each. Answers how many records there are;
-// with fewer places for replies than that, it refuses and changes nothing.
+/// Hands a whole file to the docket, record by record, and writes the reply to each. Answers how many records there are;
+/// with fewer places for replies than that, it refuses and changes nothing.
 pub fn take_file<B: Bank>(
     docket: &mut Docket,
     bank: &B,

@@ -7,7 +7,7 @@ use file_bytes::iter::Numbers;
 
 // A label as it is given: its members, two bytes for each.
 
-// The first position whose member is not below the count.
+/// The first position whose member is not below the count.
 #[tactic(auto, using(file_bytes::proofs::Numbers::numbers_length))]
 pub fn first_absent(members: &[u8], count: usize) -> Option<usize>
     ensures is { result ≡ absent_at count (numbers members.now) }
@@ -16,7 +16,7 @@ pub fn first_absent(members: &[u8], count: usize) -> Option<usize>
     Numbers::of(members).position(|member| member as usize >= count)
 }
 
-// The first position whose member is not above the one before it.
+/// The first position whose member is not above the one before it.
 pub fn first_falling(members: &[u8]) -> Option<usize>
     ensures is { result ≡ falling_at (numbers members.now) }
     ensures below { IfSome result (λ i. i < length members.now / 2) }
@@ -32,7 +32,7 @@ pub fn first_falling(members: &[u8]) -> Option<usize>
     None
 }
 
-// The row of the members; those past 1,023 are left out.
+/// The row of the members; those past 1,023 are left out.
 pub fn row_of(members: &[u8]) -> [u64; 16]
     ensures { result ≡ row (numbers members.now) }
 {

@@ -21,7 +21,7 @@ fn lowest(word: u64) -> Option<u16>
     }
 }
 
-// The least concept of row `y` that is not in row `x`.
+/// The least concept of row `y` that is not in row `x`.
 pub fn first_outside(y: &[u64; 16], x: &[u64; 16]) -> Option<u16>
     ensures { result ≡ outside y.now x.now }
 {
@@ -41,7 +41,7 @@ fn without_low(word: u64, k: usize) -> u64
     if k < 64 { word >> k << k } else { 0 }
 }
 
-// The least concept of the row from `c` upward.
+/// The least concept of the row from `c` upward.
 pub fn next_from(row: &[u64; 16], c: u16) -> Option<u16>
     ensures { result ≡ next_from row.now c }
 {
@@ -55,7 +55,7 @@ pub fn next_from(row: &[u64; 16], c: u16) -> Option<u16>
     None
 }
 
-// The row without the concepts from the count upward.
+/// The row without the concepts from the count upward.
 pub fn cut_to(row: &[u64; 16], count: usize) -> [u64; 16]
     ensures { Row result (λ c. nat_lt c count && has row.now c) }
 {

@@ -7,7 +7,7 @@ use calculus::rule::Rule;
 use logic::concept::Concept;
 use schemas::conclusion::nothing;
 
-// Rule 1: p is in the label and is Bottom. No conclusion: no element lies in Bottom.
+/// Rule 1: p is in the label and is Bottom. No conclusion: no element lies in Bottom.
 #[derive(Default, Drop)]
 pub struct BottomRule;
 

@@ -6,7 +6,7 @@ use calculus::premise::Premise;
 use calculus::rule::Rule;
 use schemas::conclusion::nothing;
 
-// Rule 2: p and q are in the label and are mates. No conclusion: no element lies in both.
+/// Rule 2: p and q are in the label and are mates. No conclusion: no element lies in both.
 #[derive(Default, Drop)]
 pub struct ClashRule;
 

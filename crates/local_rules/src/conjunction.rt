@@ -7,7 +7,7 @@ use calculus::rule::Rule;
 use logic::concept::Concept;
 use schemas::conclusion::{extended, nothing};
 
-// Rule 3: p is in the label, "C and D". Conclusion: the label, C and D.
+/// Rule 3: p is in the label, "C and D". Conclusion: the label, C and D.
 #[derive(Default, Drop)]
 pub struct ConjunctionRule;
 

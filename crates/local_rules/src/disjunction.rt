@@ -7,7 +7,7 @@ use calculus::rule::Rule;
 use logic::concept::Concept;
 use schemas::conclusion::{extended, nothing};
 
-// Rule 4: p is in the label, "C or D". Conclusions: the label and C; the label and D.
+/// Rule 4: p is in the label, "C or D". Conclusions: the label and C; the label and D.
 #[derive(Default, Drop)]
 pub struct DisjunctionRule;
 

@@ -6,7 +6,7 @@ use calculus::premise::Premise;
 use calculus::rule::Rule;
 use schemas::conclusion::{extended, nothing};
 
-// Rule 6: p is an axiom. Conclusion: the label and p.
+/// Rule 6: p is an axiom. Conclusion: the label and p.
 #[derive(Default, Drop)]
 pub struct GeneralRule;
 

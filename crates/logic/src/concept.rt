@@ -2,7 +2,7 @@ ghost use Rattle.logic.specs.Concepts.{parts};
 
 use register::entry::Entry;
 
-// A concept by its outermost constructor; its parts are numbers of earlier concepts.
+/// A concept by its outermost constructor; its parts are numbers of earlier concepts.
 #[derive(Clone, Copy)]
 pub enum Concept {
     // every element

@@ -1,10 +1,10 @@
 ghost use Rattle.std.specs.Prelude.{◌≡◌};
 ghost use Rattle.logic.specs.Roles.{inverse};
 
-// How many roles there are: 64 role names and their inverses.
+/// How many roles there are: 64 role names and their inverses.
 pub const ROLES: usize = 128;
 
-// What can be said of roles. Role 2n is role name n, and role 2n + 1 is its inverse.
+/// What can be said of roles. Role 2n is role name n, and role 2n + 1 is its inverse.
 #[derive(Clone, Copy)]
 pub enum RoleAxiom {
     // every pair of the first role is a pair of the second
@@ -13,7 +13,7 @@ pub enum RoleAxiom {
     Transitivity(u16),
 }
 
-// The role with the pairs turned round.
+/// The role with the pairs turned round.
 pub fn inverse(role: usize) -> usize
     ensures { result ≡ inverse role }
 {

@@ -17,10 +17,10 @@ use crate::verdict::Extensions;
 use refusals::Refusal;
 use vocabulary::Vocabulary;
 
-// A finite model as it is handed over: how many elements there are, which of them is the point, and its marks and edges.
-// A mark says that an element is in a name: (element, name). An edge says that a role name leads from an element to
-// another: (role name, from, to). Both lists rise in the lexicographic order; every field has two bytes, the low one first.
-// The count of marks is the one that the record states, and need not be that of its bytes.
+/// A finite model as it is handed over: how many elements there are, which of them is the point, and its marks and edges.
+/// A mark says that an element is in a name: (element, name). An edge says that a role name leads from an element to
+/// another: (role name, from, to). Both lists rise in the lexicographic order; every field has two bytes, the low one first.
+/// The count of marks is the one that the record states, and need not be that of its bytes.
 #[derive(Drop)]
 pub struct Model<'f> {
     pub size: u16,
@@ -30,9 +30,9 @@ pub struct Model<'f> {
     pub edges: &'f [u8],
 }
 
-// Whether a model is well formed, meets the vocabulary's role axioms and its axioms, and has its point in every concept
-// of a label, which is a row of bits. The first of these that fails is the answer. The rows are working memory: four
-// words for each concept, in which the elements of the concept are left.
+/// Whether a model is well formed, meets the vocabulary's role axioms and its axioms, and has its point in every concept
+/// of a label, which is a row of bits. The first of these that fails is the answer. The rows are working memory: four
+/// words for each concept, in which the elements of the concept are left.
 pub fn judge(
     vocabulary: &Vocabulary,
     label: &[u64; 16],

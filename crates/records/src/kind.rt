@@ -1,7 +1,7 @@
 ghost use Rattle.std.specs.Prelude.{◌≡◌, ◌↔◌, IsTrue};
 ghost use Rattle.records.specs.Kinds.{Decodes, CanHave};
 
-// The kinds of records.
+/// The kinds of records.
 #[derive(Clone, Copy, Debug, PartialEq, Eq)]
 pub enum Kind {
     Inclusion,
@@ -16,7 +16,7 @@ pub enum Kind {
     CloseInhabited,
 }
 
-// No kind has this number.
+/// No kind has this number.
 #[derive(Clone, Copy, Debug, PartialEq, Eq)]
 pub struct UnknownKind(pub u16);
 
@@ -43,7 +43,7 @@ impl TryFrom<u16> for Kind {
 }
 
 impl Kind {
-    // Whether the body of a record of this kind can have so many bytes.
+    /// Whether the body of a record of this kind can have so many bytes.
     pub fn can_have(self, size: usize) -> bool
         ensures { IsTrue result ↔ CanHave self size }
     {

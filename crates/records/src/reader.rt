@@ -7,7 +7,7 @@ use crate::layout::{content, extent, kind_number};
 use crate::record::Frame;
 use refusals::Refusal;
 
-// Reads a dossier file record by record.
+/// Reads a dossier file record by record.
 #[derive(Drop)]
 pub struct Reader<'f> {
     file: &'f [u8],
@@ -15,7 +15,7 @@ pub struct Reader<'f> {
 }
 
 impl<'f> Reader<'f> {
-    // A reader at the beginning of the file.
+    /// A reader at the beginning of the file.
     pub fn new(file: &'f [u8]) -> Reader<'f>
         ensures { (result.file ≡ file.entry) × (result.at ≡ 0) }
     {
@@ -46,7 +46,7 @@ impl<'f> Iterator for Reader<'f> {
     }
 }
 
-// How many records the file has, malformed ones with them.
+/// How many records the file has, malformed ones with them.
 pub fn count(file: &[u8]) -> usize
     ensures counted { (is : List ℕ) → Lies file.now 0 is → result ≡ length is }
     ensures law { FilesAreTheirRecords }

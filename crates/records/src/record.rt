@@ -1,6 +1,6 @@
 use refusals::Refusal;
 
-// A well-formed record. Its parts are bytes of the file itself.
+/// A well-formed record. Its parts are bytes of the file itself.
 #[derive(Clone, Copy)]
 pub enum Record<'f> {
     // R, S
@@ -44,8 +44,8 @@ pub enum Record<'f> {
     },
 }
 
-// A record as it lies in the file: where it begins, which kind it has, and what it is, if it is well-formed. The kind is the
-// number that stands there, also one that no kind has; 0 if the head is cut off.
+/// A record as it lies in the file: where it begins, which kind it has, and what it is, if it is well-formed. The kind is the
+/// number that stands there, also one that no kind has; 0 if the head is cut off.
 #[derive(Clone, Copy)]
 pub struct Frame<'f> {
     pub offset: usize,

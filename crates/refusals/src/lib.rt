@@ -3,8 +3,8 @@
 ghost use Rattle.std.specs.Prelude.{◌≡◌};
 ghost use Rattle.refusals.specs.Table.{returned};
 
-// The fifteen ways to say no, each with the values that its place is made of.
-// Field positions count from 0; supplied memory has the position after the last field.
+/// The fifteen ways to say no, each with the values that its place is made of.
+/// Field positions count from 0; supplied memory has the position after the last field.
 #[derive(Clone, Copy, Debug, PartialEq, Eq)]
 pub enum Refusal {
     // The record at this offset has an unknown kind, a length that its kind can't have, or is cut off.
@@ -40,7 +40,7 @@ pub enum Refusal {
 }
 
 impl Refusal {
-    // The refusal as it is returned: its number and its place, which are fixed outside.
+    /// The refusal as it is returned: its number and its place, which docs/REFUSALS.md fixes.
     pub fn returned(&self) -> (u16, usize)
         ensures { result ≡ returned self.now }
     {

@@ -59,8 +59,8 @@ fn given(at: &Premise, r: u16, c: u16) -> [u64; 16]
     row
 }
 
-// Rule 10: p is in the label, "some R C". Conclusion, of a neighbour by R: C; all D with "only R D" in the label; all "only S D" in the
-// label where R is below S and S is transitive; and all axioms.
+/// Rule 10: p is in the label, "some R C". Conclusion, of a neighbour by R: C; all D with "only R D" in the label; all "only S D" in the
+/// label where R is below S and S is transitive; and all axioms.
 #[derive(Default, Drop)]
 pub struct NeighbourRule;
 

@@ -10,7 +10,7 @@ use std::array;
 // element e is bit e mod 64 of word 4c + e div 64. The words are the host's memory, and one
 // row is made of others of the same slice, so a row is a place in it.
 
-// The words of row `c`.
+/// The words of row `c`.
 pub fn row(rows: &[u64], c: usize) -> [u64; 4]
     requires { HasRow rows.now c }
     ensures { IsRow rows.now c result }
@@ -26,7 +26,7 @@ fn write(rows: &mut [u64], c: usize, row: [u64; 4])
     rows[4 * c..4 * c + 4].copy_from_slice(&row);
 }
 
-// Whether row `c` contains the element.
+/// Whether row `c` contains the element.
 pub fn contains(rows: &[u64], c: usize, element: usize) -> bool
     requires { (HasRow rows.now c) × (element < 256) }
     ensures { result ≡ contains rows.now c element }
@@ -34,7 +34,7 @@ pub fn contains(rows: &[u64], c: usize, element: usize) -> bool
     bit(rows[4 * c + element / 64], element % 64)
 }
 
-// Puts the element into row `c`.
+/// Puts the element into row `c`.
 pub fn insert(rows: &mut [u64], c: usize, element: usize)
     requires { (HasRow rows.old c) × (element < 256) }
     ensures { RowBecomes rows.old rows.new c (λ e. (element == e) || contains rows.old c e) }
@@ -42,7 +42,7 @@ pub fn insert(rows: &mut [u64], c: usize, element: usize)
     rows[4 * c + element / 64] |= 1 << (element % 64);
 }
 
-// Row `c` becomes empty.
+/// Row `c` becomes empty.
 pub fn clear(rows: &mut [u64], c: usize)
     requires { HasRow rows.old c }
     ensures { RowBecomes rows.old rows.new c (λ _. false) }
@@ -50,7 +50,7 @@ pub fn clear(rows: &mut [u64], c: usize)
     write(rows, c, [0; 4]);
 }
 
-// Row `c` becomes what the earlier rows `a` and `b` share.
+/// Row `c` becomes what the earlier rows `a` and `b` share.
 pub fn intersect(rows: &mut [u64], c: usize, a: usize, b: usize)
     requires { (HasRow rows.old c) × ((a < c) × (b < c)) }
     ensures { RowBecomes rows.old rows.new c (λ e. contains rows.old a e && contains rows.old b e) }
@@ -59,8 +59,8 @@ pub fn intersect(rows: &mut [u64], c: usize, a: usize, b: usize)
     write(rows, c, array::from_fn(|w| x[w] & y[w]));
 }
 
-// Row `c` becomes what the earlier rows `a` and `b` have together. One function over both operations would be a trait with
-// an operation and its law, and longer than the two.
+/// Row `c` becomes what the earlier rows `a` and `b` have together. One function over both operations would be a trait with
+/// an operation and its law, and longer than the two.
 pub fn unite(rows: &mut [u64], c: usize, a: usize, b: usize)
     requires { (HasRow rows.old c) × ((a < c) × (b < c)) }
     ensures { RowBecomes rows.old rows.new c (λ e. contains rows.old a e || contains rows.old b e) }
@@ -69,7 +69,7 @@ pub fn unite(rows: &mut [u64], c: usize, a: usize, b: usize)
     write(rows, c, array::from_fn(|w| x[w] | y[w]));
 }
 
-// Row `c` becomes its complement among the first `n` elements; the others stay as they were.
+/// Row `c` becomes its complement among the first `n` elements; the others stay as they were.
 pub fn complement(rows: &mut [u64], c: usize, n: usize)
     requires { HasRow rows.old c }
     ensures { RowBecomes rows.old rows.new c (λ e. turned (nat_lt e n) (contains rows.old c e)) }

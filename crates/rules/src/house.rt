@@ -25,7 +25,7 @@ type LastFive = Pair<
     Pair<Single<InverseCutRule>, Pair<Single<TransitiveCutRule>, Single<NeighbourRule>>>,
 >;
 
-// The bank of all ten rules. There is nothing in them to choose, so there is one such bank.
+/// The bank of all ten rules. There is nothing in them to choose, so there is one such bank.
 #[derive(Default, Drop)]
 pub struct House {
     rules: Pair<FirstFive, LastFive>,

@@ -6,7 +6,7 @@ ghost use Rattle.rules.specs.contracts.house.HouseBank.TheImpl.{ghosts as member
 
 use crate::house::House;
 
-// The bank of the ten rules. It says exactly what the table of the rules says, and it is lawful.
+/// The bank of the ten rules. It says exactly what the table of the rules says, and it is lawful.
 pub fn house() -> House
     ensures calculus { members.calculus result ≡ house }
     ensures table { HouseIsTheTable }

@@ -9,7 +9,7 @@ use labels::rows::cut_to;
 
 // Conclusions as rows.
 
-// No concept.
+/// No concept.
 pub fn nothing() -> [u64; 16]
     ensures { Row result (λ c. false) }
 {
@@ -27,7 +27,7 @@ fn filled(row: &[u64; 16], added: &[u16]) -> [u64; 16]
     all
 }
 
-// The standing concepts of the label, with those in `added`.
+/// The standing concepts of the label, with those in `added`.
 pub fn extended(at: &Premise, added: &[u16]) -> [u64; 16]
     ensures { Row result (λ c. nat_lt c (length (concepts at.now.vocabulary.now)) && (has at.now.label.now c || among added.now c)) }
 {

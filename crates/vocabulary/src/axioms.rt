@@ -5,7 +5,7 @@ ghost use Rattle.vocabulary.specs.Axioms.{AxiomAdded};
 use bits;
 use register::bounded::Bounded;
 
-// The concepts that were filed as holding of every element.
+/// The concepts that were filed as holding of every element.
 #[derive(Drop)]
 pub struct Axioms {
     list: Bounded<u16, 256>,
@@ -14,7 +14,7 @@ pub struct Axioms {
 }
 
 impl Axioms {
-    // No axiom.
+    /// No axiom.
     pub fn new() -> Axioms
         ensures list { result.list ≡ [] }
         ensures row { result.row ≡ replicate 16 0 }
@@ -25,28 +25,28 @@ impl Axioms {
         }
     }
 
-    // The axioms, in filing order.
+    /// The axioms, in filing order.
     pub fn list(&self) -> &[u16]
         ensures { result.now ≡ self.now.list }
     {
         self.list.list()
     }
 
-    // The axioms as a row of bits.
+    /// The axioms as a row of bits.
     pub fn row(&self) -> [u64; 16]
         ensures { result ≡ self.now.row }
     {
         self.row
     }
 
-    // Whether the concept is an axiom.
+    /// Whether the concept is an axiom.
     pub fn has(&self, c: u16) -> bool
         ensures { result ≡ has self.now.row c }
     {
         bits::has(&self.row, c as usize)
     }
 
-    // Adds an axiom; None if the list is full.
+    /// Adds an axiom; None if the list is full.
     pub fn add(&mut self, c: u16) -> Option<usize>
         ensures { AxiomAdded self.old self.new c result }
     {

@@ -19,9 +19,9 @@ use logic::concept::Concept;
 use logic::role::RoleAxiom;
 use register::store::{Register, Unfit};
 
-// What has been said before any evidence: the role axioms, the concepts, which of them are mates, and the axioms. What every
-// vocabulary keeps (`Kept`) is no ghost field: it speaks of ways between roles and of places in lists, and such a field has
-// to be a proposition.
+/// What has been said before any evidence: the role axioms, the concepts, which of them are mates, and the axioms. What every
+/// vocabulary keeps (`Kept`) is no ghost field: it speaks of ways between roles and of places in lists, of which there may be
+/// several, and what a ghost field says must have one proof at most.
 #[derive(Drop)]
 pub struct Vocabulary<'a> {
     roles: Roles,
@@ -31,7 +31,7 @@ pub struct Vocabulary<'a> {
 }
 
 impl<'a> Vocabulary<'a> {
-    // An empty vocabulary, whose concepts lie in the host's memory.
+    /// An empty vocabulary, whose concepts lie in the host's memory.
     pub fn over(slots: &'a mut [Concept], capacity: usize) -> Vocabulary<'a>
         ensures new { New result }
         ensures room { room result.concepts ≡ min capacity (length slots.old) }
@@ -45,14 +45,14 @@ impl<'a> Vocabulary<'a> {
         }
     }
 
-    // The role axioms, in filing order.
+    /// The role axioms, in filing order.
     pub fn role_axioms(&self) -> &[RoleAxiom]
         ensures { result.now ≡ role_axioms self.now.roles }
     {
         self.roles.axioms()
     }
 
-    // Files a role axiom; None if the list is full.
+    /// Files a role axiom; None if the list is full.
     pub fn file_role_axiom(&mut self, new: RoleAxiom) -> Option<usize>
         requires { NamesBelow 128 new }
         ensures { RolesFiled self.old self.new new result }
@@ -60,91 +60,91 @@ impl<'a> Vocabulary<'a> {
         self.roles.file(new)
     }
 
-    // Whether role `r` is below role `s`.
+    /// Whether role `r` is below role `s`.
     pub fn is_below(&self, r: u16, s: u16) -> bool
         ensures { result ≡ is_below self.now.roles r s }
     {
         self.roles.is_below(r, s)
     }
 
-    // Whether role `r` is transitive.
+    /// Whether role `r` is transitive.
     pub fn is_transitive(&self, r: u16) -> bool
         ensures { result ≡ is_transitive self.now.roles r }
     {
         self.roles.is_transitive(r)
     }
 
-    // The standing concepts, by number.
+    /// The standing concepts, by number.
     pub fn concepts(&self) -> &[Concept]
         ensures { result.now ≡ concepts self.now }
     {
         self.concepts.entries()
     }
 
-    // How many concepts stand.
+    /// How many concepts stand.
     pub fn len(&self) -> usize
         ensures { result ≡ length (concepts self.now) }
     {
         self.concepts.len()
     }
 
-    // How many concepts can stand.
+    /// How many concepts can stand.
     pub fn room(&self) -> usize
         ensures { result ≡ room self.now.concepts }
     {
         self.concepts.room()
     }
 
-    // Concept `c`, if it stands.
+    /// Concept `c`, if it stands.
     pub fn concept(&self, c: u16) -> Option<Concept>
         ensures { result ≡ concept_at self.now c }
     {
         self.concepts.get(c as usize)
     }
 
-    // The mate of a concept, if it has one.
+    /// The mate of a concept, if it has one.
     pub fn mate(&self, c: u16) -> Option<u16>
         ensures { result ≡ mate self.now.mates c }
     {
         self.mates.mate(c)
     }
 
-    // Files a concept.
+    /// Files a concept.
     pub fn file_concept(&mut self, k: Concept) -> Result<usize, Unfit>
         ensures { ConceptFiled self.old self.new k result }
     {
         self.concepts.push(k)
     }
 
-    // The concepts that hold of every element, in filing order.
+    /// The concepts that hold of every element, in filing order.
     pub fn axioms(&self) -> &[u16]
         ensures { result.now ≡ axioms self.now }
     {
         self.axioms.list()
     }
 
-    // The axioms as a row of bits.
+    /// The axioms as a row of bits.
     pub fn axiom_row(&self) -> [u64; 16]
         ensures { result ≡ self.now.axioms.row }
     {
         self.axioms.row()
     }
 
-    // Whether the concept is an axiom.
+    /// Whether the concept is an axiom.
     pub fn is_axiom(&self, c: u16) -> bool
         ensures { result ≡ is_axiom self.now c }
     {
         self.axioms.has(c)
     }
 
-    // Whether the two are mates.
+    /// Whether the two are mates.
     pub fn are_mates(&self, c: u16, d: u16) -> bool
         ensures { result ≡ are_mates self.now.mates c d }
     {
         self.mates.are_mates(c, d)
     }
 
-    // Files a concept as one that holds of every element; None if the list is full.
+    /// Files a concept as one that holds of every element; None if the list is full.
     pub fn file_axiom(&mut self, c: u16) -> Option<usize>
         ensures { AxiomFiled self.old self.new c result }
     {
@@ -165,7 +165,7 @@ impl<'a> Vocabulary<'a> {
         }
     }
 
-    // Whether the two can be paired.
+    /// Whether the two can be paired.
     pub fn pairable(&self, c: u16, d: u16) -> bool
         ensures { result ≡ pairable self.now c d }
     {
@@ -178,7 +178,7 @@ impl<'a> Vocabulary<'a> {
         self.opposed(j, k) || self.opposed(k, j)
     }
 
-    // Pairs the two; None if they can't be paired.
+    /// Pairs the two; None if they can't be paired.
     pub fn pair(&mut self, c: u16, d: u16) -> Option<()>
         ensures { Paired self.old self.new c d (is_some result) }
     {

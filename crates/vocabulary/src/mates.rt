@@ -1,38 +1,38 @@
 ghost use Rattle.std.specs.Prelude.{◌≡◌, replicate, None};
 ghost use Rattle.vocabulary.specs.Mates.{mate, are_mates, Joined};
 
-// How many concepts there can be.
+/// How many concepts there can be.
 pub const CONCEPTS: usize = 1024;
 
-// Which concepts are mates: paired concepts, each the complement of the other.
+/// Which concepts are mates: paired concepts, each the complement of the other.
 #[derive(Drop)]
 pub struct Mates {
     of: [Option<u16>; 1024],
 }
 
 impl Mates {
-    // No concept has a mate.
+    /// No concept has a mate.
     pub fn new() -> Mates
         ensures { result.of ≡ replicate 1024 None }
     {
         Mates { of: [None; 1024] }
     }
 
-    // The mate of a concept, if it has one.
+    /// The mate of a concept, if it has one.
     pub fn mate(&self, c: u16) -> Option<u16>
         ensures { result ≡ mate self.now c }
     {
         *self.of.get(c as usize)?
     }
 
-    // Whether the two are mates.
+    /// Whether the two are mates.
     pub fn are_mates(&self, c: u16, d: u16) -> bool
         ensures { result ≡ are_mates self.now c d }
     {
         self.mate(c) == Some(d)
     }
 
-    // Makes the two mates of each other.
+    /// Makes the two mates of each other.
     pub fn join(&mut self, c: u16, d: u16)
         ensures { Joined self.old self.new c d }
     {

@@ -7,7 +7,7 @@ use closure;
 use logic::role::{ROLES, RoleAxiom};
 use register::bounded::Bounded;
 
-// The role axioms, with what they say of every two roles kept at hand.
+/// The role axioms, with what they say of every two roles kept at hand.
 #[derive(Drop)]
 pub struct Roles {
     axioms: Bounded<RoleAxiom, 256>,
@@ -18,7 +18,7 @@ pub struct Roles {
 }
 
 impl Roles {
-    // No axiom: each role is below itself alone, and none is transitive.
+    /// No axiom: each role is below itself alone, and none is transitive.
     pub fn new() -> Roles
         ensures none { role_axioms result ≡ [] }
         ensures kept { RolesKept result }
@@ -32,14 +32,14 @@ impl Roles {
         }
     }
 
-    // The role axioms, in filing order.
+    /// The role axioms, in filing order.
     pub fn axioms(&self) -> &[RoleAxiom]
         ensures { result.now ≡ role_axioms self.now }
     {
         self.axioms.list()
     }
 
-    // Whether role `r` is below role `s`.
+    /// Whether role `r` is below role `s`.
     pub fn is_below(&self, r: u16, s: u16) -> bool
         ensures { result ≡ is_below self.now r s }
     {
@@ -47,14 +47,14 @@ impl Roles {
         r < ROLES && s < ROLES && closure::below(&self.below, ROLES, r, s)
     }
 
-    // Whether role `r` is transitive.
+    /// Whether role `r` is transitive.
     pub fn is_transitive(&self, r: u16) -> bool
         ensures { result ≡ is_transitive self.now r }
     {
         (r as usize) < ROLES && bit(self.transitive, r as usize / 2)
     }
 
-    // Files a role axiom; None if the list is full.
+    /// Files a role axiom; None if the list is full.
     pub fn file(&mut self, new: RoleAxiom) -> Option<usize>
         requires { NamesBelow 128 new }
         ensures { RoleAxiomFiled self.old self.new new result }
