@@ -1,5 +1,6 @@
 #![tactic(auto)]
 
+ghost use Rattle.facts.specs.Claims.{ClaimsAreRight};
 ghost use Rattle.facts.specs.Facts.{ThreeFacts};
 ghost use Rattle.facts.specs.Filing.{ClosedTreesAreTaken};
 
@@ -10,4 +11,11 @@ ghost use Rattle.facts.specs.Filing.{ClosedTreesAreTaken};
 pub fn three_facts_hold()
     ensures facts { ThreeFacts }
     ensures every_calculus { ClosedTreesAreTaken }
+{}
+
+// THE CLAIMS ARE RIGHT in every docket that is reached: a claim that is closed as empty has no element, one that is closed as
+// inhabited has one, and a call that closes a claim by a model, if nothing else refuses it, is answered as the model is judged.
+// A call does nothing; that it is proved says that the claims are right.
+pub fn claims_are_right()
+    ensures { ClaimsAreRight }
 {}
