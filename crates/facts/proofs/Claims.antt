@@ -36,7 +36,7 @@ use Rattle.docket.specs.Calls.{Call, inclusion, transitivity, concept, pair, gen
 use Rattle.docket.specs.Runs.{Reached, began, called}
 use Rattle.docket.proofs.Reaching.{reached_kept}
 use Rattle.facts.specs.Lines.{Empty}
-use Rattle.facts.specs.Claims.{Witness, EmptyClaimsAreEmpty, InhabitedClaimsHaveAnElement, InhabitedClaimsHaveNoLine, ModelsAreJudged, ClaimsAreRight}
+use Rattle.facts.specs.Claims.{Witness, ClaimLabelsStand, EmptyClaimsAreEmpty, InhabitedClaimsHaveAnElement, InhabitedClaimsHaveNoLine, ModelsAreJudged, ClaimsAreRight}
 use Rattle.facts.proofs.Growing.{Grown, none_more, empty_stays}
 use Rattle.facts.proofs.Members.{none_absent, in_row, none_outside}
 use Rattle.facts.proofs.Emptiness.{Invariant, inhabits_less, reached_invariant, lines_are_empty}
@@ -144,9 +144,9 @@ settled d c s shown l e w = all_set (Shown d.vocabulary) (filed d.claims) c _ sh
 -- the line that closes a claim
 line_empties : (d : Docket) (c n : ℕ) → Kept d.vocabulary → Invariant d → refusal (close_empty c n) d ≡ None → Empty d.vocabulary (has (claim_at d.claims c).label)
 line_empties d c n kept s h I meets i =
-    let r = (clear (all_rows (close_empty c n) d) h).1.1 in
-    let stands = leb_false (length (lines d)) n (when_none (leb (length (lines d)) n) (Absent 1) r.0) in
-    let none = with_none Outside (outside (label_of (lines d) n) (claim_at d.claims c).label) r.1.1.0 in
+    let r = clear (all_rows (close_empty c n) d) h in
+    let stands = leb_false (length (lines d)) n (when_none (leb (length (lines d)) n) (Absent 1) r.1.1.0) in
+    let none = with_none Outside (outside (label_of (lines d) n) (claim_at d.claims c).label) r.1.1.1.1.0 in
     let few = kept.concepts_kept.few in
     let short : (k : ℕ) → has (label_of (lines d) n) k ≡ true → k < 1024 = λ k m. let b = s.labels_stand n k stands m in omega arith in
     s.all_empty n stands I meets (inhabits_less I d.vocabulary _ _ (λ k m. none_outside (label_of (lines d) n) (claim_at d.claims c).label none k (short k m) m) i)
@@ -192,6 +192,9 @@ reached_shown : (d : Docket) → Reached d → ClaimsShown d
 reached_shown d (began f) = no_claim d f.no_claim
 reached_shown d (called {d = b} c a p lent h) = acts_shown c b d a (reached_kept b p) (reached_invariant b p) h (reached_shown b p)
 
+claim_labels_stand : ClaimLabelsStand
+claim_labels_stand d p c l = ((reached_shown d p).all_shown c l).stands
+
 empty_claims_are_empty : EmptyClaimsAreEmpty
 empty_claims_are_empty d p c l empty = ((reached_shown d p).all_shown c l).emptied empty
 
@@ -203,23 +206,22 @@ inhabited_claims_have_no_line d p c l inhabited k m within =
     let w = inhabited_claims_have_an_element d p c l inhabited in
     lines_are_empty d p k m w.interpretation w.meets (inhabits_less w.interpretation d.vocabulary _ _ within w.inhabits)
 
--- a claim that a model is judged for has a label of standing concepts
-judged_stands : (d : Docket) → Reached d → (c : ℕ) (m : Model) (old new : List ℕ) → refusal (close_inhabited c m old new) d ≡ None
-    → LabelStands (concepts d.vocabulary) (claim_at d.claims c).label
-judged_stands d p c m old new h =
-    let r = (clear (all_rows (close_inhabited c m old new) d) h).1.1 in
-    let stands = leb_false (length (filed d.claims)) c (when_none (leb (length (filed d.claims)) c) (Absent 0) r.0) in
-    ((reached_shown d p).all_shown c stands).stands
+-- a claim that a model is judged for stands
+judged_for : (d : Docket) (c : ℕ) (m : Model) (old new : List ℕ) → refusal (close_inhabited c m old new) d ≡ None → c < length (filed d.claims)
+judged_for d c m old new h =
+    let r = clear (all_rows (close_inhabited c m old new) d) h in
+    leb_false (length (filed d.claims)) c (when_none (leb (length (filed d.claims)) c) (Absent 0) r.1.1.0)
 
 models_are_judged : ModelsAreJudged
-models_are_judged d p c m old new (Ok i) e h acts = acts.0.1 (reached_kept d p) (judged_stands d p c m old new h)
+models_are_judged d p c m old new (Ok i) e h acts = acts.0.1 (reached_kept d p) (claim_labels_stand d p c (judged_for d c m old new h))
 models_are_judged d p c m old new (Err x) e h acts = ⊎_elim
     (λ q. let never = sym h ∙ q.0 in let z : ◌≡◌ {A = ℕ} 0 1 = cc in absurd (omega arith))
-    (λ q. q.1 (reached_kept d p) (judged_stands d p c m old new h))
+    (λ q. q.1 (reached_kept d p) (claim_labels_stand d p c (judged_for d c m old new h)))
     acts.0
 
 pub claims_are_right : ClaimsAreRight
 claims_are_right = record {
+  claim_labels_stand = claim_labels_stand;
   empty_claims_are_empty = empty_claims_are_empty;
   inhabited_claims_have_an_element = inhabited_claims_have_an_element;
   models_are_judged = models_are_judged;

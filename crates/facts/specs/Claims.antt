@@ -1,11 +1,12 @@
--- What a claim that is closed says of its label and of the lines, and a refused closing of its model.
+-- What is promised of claims: of their labels, of those that are closed, and of the models that close them.
 use Rattle.std.specs.Prelude.{◌≡◌, ℕ, ◌<◌, Bool, true, List, length, None, Ok, Err, Result}
 use Rattle.refusals.specs.declared.Refusal.{Refusal}
 use Rattle.bits.specs.Bits.{has}
 use Rattle.logic.specs.Interpretations.{Interpretation}
 use Rattle.vocabulary.specs.declared.Vocabulary.{Vocabulary}
+use Rattle.vocabulary.specs.Vocabularies.{concepts}
 use Rattle.models.specs.declared.Model.{Model}
-use Rattle.models.specs.Judging.{Judged}
+use Rattle.models.specs.Judging.{LabelStands, Judged}
 use Rattle.calculus.specs.Cases.{MeetsAxioms, Inhabits}
 use Rattle.claims.specs.declared.Status.TheVariants.{Empty as IsEmpty, Inhabited}
 use Rattle.claims.specs.Claiming.{filed, claim_at}
@@ -21,6 +22,10 @@ pub record Witness (v : Vocabulary) (X : ℕ → Bool) : Type 0 where
   pub interpretation : Interpretation
   pub meets : MeetsAxioms interpretation v
   pub inhabits : Inhabits interpretation v X
+
+-- THE LABEL OF A CLAIM IS OF STANDING CONCEPTS, in any docket that is reached
+abbrev pub ClaimLabelsStand : Type 0
+ClaimLabelsStand = (d : Docket) → Reached d → (c : ℕ) → c < length (filed d.claims) → LabelStands (concepts d.vocabulary) (claim_at d.claims c).label
 
 -- A CLAIM THAT IS CLOSED AS EMPTY IS EMPTY, in any docket that is reached
 abbrev pub EmptyClaimsAreEmpty : Type 0
@@ -42,18 +47,19 @@ abbrev pub verdict : Result ℕ Refusal → Result (Unit {0}) Refusal
 verdict (Ok i) = Ok tt
 verdict (Err x) = Err x
 
--- A CALL THAT CLOSES A CLAIM BY A MODEL IS ANSWERED AS THE MODEL IS JUDGED, if no row refuses it first, in any docket that
--- is reached
+-- A CALL THAT CLOSES A CLAIM BY A MODEL IS ANSWERED AS THE MODEL IS JUDGED, if nothing else speaks against it, in any docket
+-- that is reached
 abbrev pub ModelsAreJudged : Type 0
 ModelsAreJudged = (d : Docket) → Reached d → (c : ℕ) (m : Model) (old new : List ℕ) (a : Result ℕ Refusal) (e : Docket)
     → refusal (close_inhabited c m old new) d ≡ None → Acts (close_inhabited c m old new) d a e
     → Judged d.vocabulary (claim_at d.claims c).label m old (verdict a) new
 
--- WHAT IS RELIED ON when a claim is closed
 pub record ClaimsAreRight : Type 0 where
-  -- closed as empty: no finite interpretation that meets the axioms has an element in all of its label
+  -- the label of a claim is of standing concepts
+  pub claim_labels_stand : ClaimLabelsStand
+  -- where a claim is closed as empty, no finite interpretation that meets the axioms has an element in all of its label
   pub empty_claims_are_empty : EmptyClaimsAreEmpty
-  -- closed as inhabited: some finite interpretation that meets the axioms has one
+  -- where it is closed as inhabited, some finite interpretation that meets the axioms has one
   pub inhabited_claims_have_an_element : InhabitedClaimsHaveAnElement
-  -- closed by a model, or refused for it: exactly as the meaning of the label and of the axioms has it
+  -- a model closes a claim, or is refused, by the meaning of the label and of the axioms alone
   pub models_are_judged : ModelsAreJudged
