@@ -61,5 +61,5 @@ pub record ClaimsAreRight : Type 0 where
   pub empty_claims_are_empty : EmptyClaimsAreEmpty
   -- where it is closed as inhabited, some finite interpretation that meets the axioms has one
   pub inhabited_claims_have_an_element : InhabitedClaimsHaveAnElement
-  -- a model closes a claim, or is refused, by the meaning of the label and of the axioms alone
+  -- where nothing else speaks against it, a claim is closed by a model, or the model refused, as the model is judged
   pub models_are_judged : ModelsAreJudged

@@ -1,4 +1,4 @@
--- Closed trees are taken, line by line, in every order that puts children before their parents, if nothing else is filed between.
+-- Closed trees are taken, line by line, in every order that puts children before their parents, if nothing else is filed.
 use Rattle.std.specs.Prelude.{◌≡◌, ℕ, ◌-◌, ◌<◌, ◌≤◌, List, [], ◌∷◌, ◌++◌, length, Ok, Err, Result, slice_index_or}
 use Rattle.refusals.specs.declared.Refusal.{Refusal}
 use Rattle.register.specs.Registers.{room}
