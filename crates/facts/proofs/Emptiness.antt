@@ -1,11 +1,12 @@
 -- Every call keeps the labels of the standing lines empty.
-use Rattle.std.proofs.Common.{◌≡◌, ℕ, ◌<◌, ◌≤◌, true, List, [], ◌∷◌, ◌++◌, length, Ok, Err, Result, sym, ap, subst, ⊎_elim, arith}
+use Rattle.std.proofs.Common.{◌≡◌, ℕ, ◌<◌, ◌≤◌, Bool, true, List, [], ◌∷◌, ◌++◌, length, Ok, Err, Result, sym, ap, subst, ⊎_elim, arith}
 use Rattle.std.proofs.lemmas.List.{get_or_append_left, get_or_push, length_push}
 use Rattle.std.proofs.lemmas.Bool.{cases_lt}
 use Rattle.refusals.specs.declared.Refusal.{Refusal}
 use Rattle.refusals.proofs.Clearing.{clear, cleared}
 use Rattle.register.specs.Registers.{entries, room}
 use Rattle.bits.specs.Bits.{has}
+use Rattle.logic.specs.Interpretations.{Interpretation}
 use Rattle.vocabulary.specs.declared.Vocabulary.{Vocabulary}
 use Rattle.vocabulary.specs.Vocabularies.{concepts}
 use Rattle.vocabulary.specs.Keeping.{Kept}
@@ -25,6 +26,10 @@ use Rattle.facts.specs.Lines.{Empty, LinesAreEmpty}
 use Rattle.facts.proofs.Licences.{LabelsBelow, licensed_empty}
 use Rattle.facts.proofs.Growing.{Grown, grown_count, grown_same, grown_role_axiom, grown_concept, grown_pair, grown_axiom, empty_stays}
 use Rattle.facts.proofs.Members.{none_absent, in_row}
+
+-- an element that has all of a set has all of every smaller one
+pub inhabits_less : (I : Interpretation) (v : Vocabulary) (X Y : ℕ → Bool) → ((c : ℕ) → Y c ≡ true → X c ≡ true) → Inhabits I v X → Inhabits I v Y
+inhabits_less I v X Y less i = record { element = i.element; inside = i.inside; in_all = λ c y. i.in_all c (less c y) }
 
 abbrev pub AllEmpty : Vocabulary → List Line → Type 0
 AllEmpty v ls = (k : ℕ) → k < length ls → Empty v (has (label_of ls k))
@@ -59,8 +64,7 @@ module _ (k : Calculus) (law : LawfulCalculus k) (f : Draft) (d : Docket) (kept 
   label_empty : Empty d.vocabulary (has (label f))
   label_empty I meets h =
       let few = kept.concepts_kept.few in
-      licensed_empty (Inhabits I d.vocabulary)
-      (λ X Y less i. record { element = i.element; inside = i.inside; in_all = λ c y. i.in_all c (less c y) })
+      licensed_empty (Inhabits I d.vocabulary) (inhabits_less I d.vocabulary)
       k d.vocabulary (lines d) f (law.few f.rule)
       (λ applies i. law.sound f.rule d.vocabulary f.on (label f) I kept meets applies i)
       (λ n c l b. let t = s.labels_stand n c l b in omega arith)

@@ -2,7 +2,7 @@ pub mod Licences
 pub mod Growing
 pub mod Members
 pub mod Emptiness
-pub mod Witnesses
+pub mod Claims
 pub mod Interleaving
 pub mod Steady
 pub mod Taking

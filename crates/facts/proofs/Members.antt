@@ -1,9 +1,9 @@
 -- Lists of numbers that all stand, and that rise.
-use Rattle.std.proofs.Common.{◌≡◌, ℕ, zero, suc, ◌+◌, ◌-◌, ◌<◌, ◌≤◌, true, false, eqb, ltb, List, [], ◌∷◌, length, get_or, None, sym, refl, ◌∙◌, subst, ⊎_elim, arith}
+use Rattle.std.proofs.Common.{◌≡◌, ℕ, zero, suc, ◌+◌, ◌-◌, ◌<◌, ◌≤◌, Bool, true, false, not, ◌&&◌, eqb, ltb, List, [], ◌∷◌, length, get_or, None, sym, refl, ◌∙◌, subst, ⊎_elim, arith}
 use Rattle.std.proofs.lemmas.Bool.{cases_lt, and_parts, and_left, and_right, eqb-true, eq-eqb, lt-leb, le-ltb}
-use Rattle.refusals.proofs.Clearing.{leb_false}
+use Rattle.refusals.proofs.Clearing.{not-false, leb_false}
 use Rattle.bits.specs.Bits.{has}
-use Rattle.labels.specs.Labels.{row, among, absent, absent_at, falls, falling_at}
+use Rattle.labels.specs.Labels.{row, among, absent, absent_at, falls, falling_at, outside}
 use Rattle.labels.proofs.LeastFacts.{least_all, all_least}
 use Rattle.labels.proofs.RowFacts.{row_has}
 use Rattle.vocabulary.proofs.Pairings.{or_cases, or_left, or_right}
@@ -22,6 +22,12 @@ none_absent n ms h = below_all n ms (λ i l. leb_false n (get_or ms i 0) (least_
 -- a number of a row is one of the numbers that it was made of
 pub in_row : (ms : List ℕ) (c : ℕ) → has (row ms) c ≡ true → among ms c ≡ true
 in_row ms c h = (and_parts (ltb c 1024) (among ms c) (sym (row_has ms c) ∙ h)).1
+
+-- where none of a row lies outside another, it lies within it
+pub none_outside : (y x : List ℕ) → outside y x ≡ None → (c : ℕ) → c < 1024 → has y c ≡ true → has x c ≡ true
+none_outside y x h c l k =
+    let never = least_all 1024 (λ e. has y e && not (has x e)) h c l in
+    not-false (has x c) (subst (λ (b : Bool). (b && not (has x c)) ≡ false) k never)
 
 -- the other way
 among_at : (ms : List ℕ) (i : ℕ) → i < length ms → among ms (get_or ms i 0) ≡ true

@@ -1,7 +1,7 @@
 -- The three facts, proved.
 use Rattle.facts.specs.Facts.{ThreeFacts}
 use Rattle.facts.proofs.Emptiness.{lines_are_empty}
-use Rattle.facts.proofs.Witnesses.{inhabited_claims_have_no_line}
+use Rattle.facts.proofs.Claims.{inhabited_claims_have_no_line}
 use Rattle.facts.proofs.HouseTrees.{house_trees_are_taken}
 
 pub three_facts : ThreeFacts

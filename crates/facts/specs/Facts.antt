@@ -8,5 +8,6 @@ pub record ThreeFacts : Type 0 where
   pub lines_are_empty : LinesAreEmpty
   -- where a claim is inhabited, no standing line's label lies within its label
   pub inhabited_claims_have_no_line : InhabitedClaimsHaveNoLine
-  -- a tree that is closed by the table, and for which there is room, is taken
+  -- a sealed docket takes each tree that is closed by the table and for which there is room, if children are filed before
+  -- their parents, parents cite what was answered to them, and nothing else is filed between
   pub closed_trees_are_taken : HouseTreesAreTaken

@@ -1,4 +1,4 @@
--- Closed trees are taken, line by line, in every order that puts children before their parents.
+-- Closed trees are taken, line by line, in every order that puts children before their parents, if nothing else is filed.
 use Rattle.std.specs.Prelude.{◌≡◌, ℕ, ◌-◌, ◌<◌, ◌≤◌, List, [], ◌∷◌, ◌++◌, length, Ok, Err, Result, slice_index_or}
 use Rattle.refusals.specs.declared.Refusal.{Refusal}
 use Rattle.register.specs.Registers.{room}
@@ -30,7 +30,8 @@ Cites m (Ok i) = m ≡ i
 Cites m (Err x) = Unit {0}
 
 -- THE TREE IS FILED BY THESE EVENTS, CHILDREN BEFORE PARENTS, and the filing of its root is answered with a: first the
--- subtrees, their filings interleaved in any way, and then the root, which cites what was answered to its children
+-- subtrees, their filings interleaved in any way, and then the root, which cites what was answered to its children, in their
+-- order, and 0 in place of a child that it doesn't have
 pub data FiledBy (k : Calculus) : Tree → List Event → Result ℕ Refusal → Type 0 where
   leaf_filed : (f : Draft) (a : Result ℕ Refusal) → f.m ≡ 0 → f.n ≡ 0 → FiledBy k (leaf (node_of f)) (filing k f a ∷ []) a
   one_filed : (f : Draft) (a : Result ℕ Refusal) {t : Tree} {xs : List Event} {b : Result ℕ Refusal}
@@ -69,8 +70,9 @@ pub record StandsWith (e : Docket) (label : List ℕ) (a : Result ℕ Refusal) :
 abbrev pub free : Docket → ℕ
 free d = room d.book - length (lines d)
 
--- EVERY CLOSED TREE FOR WHICH THERE IS ROOM IS TAKEN by a sealed docket, however its lines are ordered, if children come
--- before their parents: each of them is answered with its number and stands, and so the root stands with the root's label
+-- EVERY CLOSED TREE FOR WHICH THERE IS ROOM IS TAKEN by a sealed docket, in whatever order its lines are filed, if children
+-- come before their parents, each line cites the numbers that were answered to its children, and the run files nothing else:
+-- each line is answered with its number and stands as it was drafted, and so the root stands with the root's label
 abbrev pub TreesAreTaken : Calculus → Type 0
 TreesAreTaken k = (d : Docket) → Reached d → d.phase ≡ Sealed → (t : Tree) → Closed k d.vocabulary t → nodes t ≤ free d
     → (run : List Event) (o : Files k t run) (e : Docket) → Ran d run e → Each (Taken k e) o.filings × StandsWith e (root t).label o.last

@@ -32,9 +32,10 @@ ClosedByTable v (leaf n) = AppliedByTable v n × (conclusions_of n ≡ 0)
 ClosedByTable v (one n t) = AppliedByTable v n × (conclusions_of n ≡ 1) × CarriesByTable v n 0 (root t) × ClosedByTable v t
 ClosedByTable v (two n t u) = AppliedByTable v n × (conclusions_of n ≡ 2) × CarriesByTable v n 0 (root t) × CarriesByTable v n 1 (root u) × ClosedByTable v t × ClosedByTable v u
 
--- EVERY TREE THAT IS CLOSED BY THE TABLE AND FOR WHICH THERE IS ROOM IS TAKEN by a sealed docket, by the house's ten rules, however
--- its lines are ordered, if children come before their parents: each of them is answered with its number and stands, and so
--- the root stands with the root's label
+-- EVERY TREE THAT IS CLOSED BY THE TABLE AND FOR WHICH THERE IS ROOM IS TAKEN by a sealed docket, by the house's ten rules, in
+-- whatever order its lines are filed, if children come before their parents, each line cites the numbers that were answered
+-- to its children, and the run files nothing else: each line is answered with its number and stands as it was drafted, and
+-- so the root stands with the root's label
 abbrev pub HouseTreesAreTaken : Type 0
 HouseTreesAreTaken = (d : Docket) → Reached d → d.phase ≡ Sealed → (t : Tree) → ClosedByTable d.vocabulary t → nodes t ≤ free d
     → (run : List Event) (o : Files house t run) (e : Docket) → Ran d run e → Each (Taken house e) o.filings × StandsWith e (root t).label o.last

@@ -1,13 +1,23 @@
 #![tactic(auto)]
 
+ghost use Rattle.facts.specs.Claims.{ClaimsAreRight};
 ghost use Rattle.facts.specs.Facts.{ThreeFacts};
 ghost use Rattle.facts.specs.Filing.{ClosedTreesAreTaken};
 
 /// THE THREE FACTS of every docket that is reached: no standing line's label is inhabited; where a claim is inhabited, no
-/// standing line's label lies within its label; and every tree that is closed by the table of rules, and for which there is
-/// room, is taken. Trees that are closed by any other lawful calculus of proper rules are taken too.
+/// standing line's label lies within its label; and once it is sealed, every tree that is closed by the table of rules, and for
+/// which there is room, is taken, if children are filed before their parents, parents cite what was answered to them, and
+/// nothing else is filed between. Trees that are closed by any other lawful calculus of proper rules are taken too.
 /// A call does nothing; that it is proved says that the facts hold.
 pub fn three_facts_hold()
     ensures facts { ThreeFacts }
     ensures every_calculus { ClosedTreesAreTaken }
+{}
+
+/// THE CLAIMS ARE RIGHT in every docket that is reached: a label of a claim is of standing concepts; no finite interpretation
+/// that meets the axioms has an element in all of the label of a claim that is closed as empty; some does where it is closed as
+/// inhabited; and a call that closes a claim by a model is answered as the model is judged, if nothing else speaks against it.
+/// A call does nothing; that it is proved says that the claims are right.
+pub fn claims_are_right()
+    ensures { ClaimsAreRight }
 {}

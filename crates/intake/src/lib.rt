@@ -3,6 +3,7 @@
 pub mod show;
 
 ghost use Rattle.docket.specs.Runs.{Reached};
+ghost use Rattle.facts.specs.Claims.{ClaimsAreRight};
 ghost use Rattle.facts.specs.Facts.{ThreeFacts};
 ghost use Rattle.intake.specs.Taking.{Takes, FileTaken};
 
@@ -82,6 +83,7 @@ pub fn take_file<B: Bank>(
     ensures taken { FileTaken (B.Bank.calculus bank.now) file.now docket.old rows.old replies.old result docket.new rows.new replies.new }
     ensures reached { Reached docket.old → Reached docket.new }
     ensures facts { ThreeFacts }
+    ensures claims { ClaimsAreRight }
 {
     let total = count(file);
     if replies.len() < total {

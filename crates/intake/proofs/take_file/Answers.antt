@@ -1,11 +1,15 @@
 use Rattle.std.proofs.Common.{◌≤◌, length, sym, refl, ◌∙◌, subst, arith}
 use Rattle.records.proofs.Offsets.{lies_all, passed_none, passed_all}
+use Rattle.facts.proofs.Claims.{claims_are_right}
 use Rattle.facts.proofs.ThreeFacts.{three_facts}
 use Rattle.intake.proofs.Replies.{handed_room, handed_more, taken_all, taken_reached}
 use Rattle.intake.proofs.take_file.Goals as goal
 
 pub returns-then-replies-total-clause-facts : goal.returns-then-replies-total-clause-facts
 returns-then-replies-total-clause-facts g c = three_facts
+
+pub returns-then-replies-total-clause-claims : goal.returns-then-replies-total-clause-claims
+returns-then-replies-total-clause-claims g c = claims_are_right
 
 pub loop-i-init : goal.loop-i-init
 loop-i-init g c =
@@ -42,4 +46,5 @@ returns g c =
       taken = (c.count-total.ensures.counted, omega arith, rw total all, rw total h.behind);
       reached = taken_reached k (g.met.B.Bank.lawful c.args.bank.now) f 0 c.args.docket.now c.loop-i.docket c.args.rows.now c.loop-i.rows _ all;
       facts = three_facts;
+      claims = claims_are_right;
     }
