@@ -1,0 +1,85 @@
+-- Claims that are closed by models.
+use Rattle.std.proofs.Common.{◌≡◌, ℕ, ◌*◌, ◌<◌, ◌≤◌, Bool, true, not, ◌||◌, T, List, [], ◌∷◌, length, Ok, Err, refl, below_more, arith}
+use borrow.Author.Count.{below_none}
+use Rattle.std.proofs.lemmas.Float.{T_from_true}
+use Rattle.refusals.specs.declared.Refusal.TheVariants.{RoleAxiom, Point}
+use Rattle.bits.specs.Bits.{has}
+use Rattle.rows.specs.Rows.{contains}
+use Rattle.labels.specs.Labels.{row}
+use Rattle.logic.specs.declared.concept.Concept.TheVariants.{Top}
+use Rattle.logic.specs.declared.role.RoleAxiom.TheVariants.{Transitivity}
+use Rattle.vocabulary.specs.declared.Vocabulary.{Vocabulary}
+use Rattle.vocabulary.specs.Keeping.{Kept}
+use Rattle.vocabulary.specs.Vocabularies.{concepts, axioms}
+use Rattle.models.specs.Items.{any_below}
+use Rattle.models.specs.Judging.{LabelStands, Judged}
+use Rattle.models.proofs.JudgingFacts.{Judgeable, satisfied, point_missed}
+use Rattle.examples.specs.SmallDocket.{vocabulary, role_0_transitive, no_pair, six, six_concepts, model, one_edge, chain, closed_chain, rows}
+use Rattle.examples.proofs.Judging.{evaluated, every, every_at, implied}
+use Rattle.examples.proofs.Models.{no_edge_formed, one_edge_formed, chain_formed, closed_chain_formed, chain_lacks, closed_chain_has}
+
+-- what the judgement of a model asks of a vocabulary, a label and the working rows
+judgeable : (v : Vocabulary) (label old : List ℕ) → Kept v → LabelStands (concepts v) label → 4 * length (concepts v) ≤ length old
+    → Judgeable (concepts v) (axioms v) label old
+judgeable v label old kept stands room = record {
+  ordered = kept.concepts_kept.ordered;
+  few = kept.concepts_kept.few;
+  axioms_stand = kept.axioms_stand;
+  label_stands = stands;
+  room = room;
+}
+
+-- the label with the member 3, and the working rows before, between and after
+abbrev three : List ℕ
+three = row (3 ∷ [])
+
+abbrev blank_rows : List ℕ
+blank_rows = rows (0 ∷ 0 ∷ 0 ∷ 0 ∷ 0 ∷ 0 ∷ [])
+
+abbrev rows_without : List ℕ
+rows_without = rows (0 ∷ 3 ∷ 3 ∷ 0 ∷ 0 ∷ 3 ∷ [])
+
+abbrev rows_with : List ℕ
+rows_with = rows (0 ∷ 3 ∷ 3 ∷ 1 ∷ 0 ∷ 2 ∷ [])
+
+-- the first n concepts have the point in their rows, if they are in the label
+abbrev lie : List ℕ → List ℕ → ℕ → Bool
+lie label rows c = not (has label c) || contains rows c 0
+
+all_lie : (label rows : List ℕ) (n : ℕ) → every n (lie label rows) ≡ true → (c : ℕ) → c < n → has label c ≡ true → T (contains rows c 0)
+all_lie label rows n h c l i = implied (has label c) (contains rows c 0) (every_at n (lie label rows) c h l) (T_from_true (has label c) i)
+
+pub without_edge : Kept six → LabelStands (concepts six) three → Judged six three (model 2 []) blank_rows (Err (Point 3)) rows_without
+unfolding row any_below
+without_edge kept stands = point_missed (model 2 []) no_edge_formed [] six_concepts [] three blank_rows rows_without (judgeable six three blank_rows kept stands (omega arith))
+    (λ k l. absurd (omega arith))
+    (evaluated (model 2 []) no_edge_formed six_concepts rows_without blank_rows (omega arith) (omega arith) refl)
+    3 (λ k l. absurd (omega arith)) (omega arith, λ p. p refl, all_lie three rows_without 3 refl)
+
+pub with_edge : Kept six → LabelStands (concepts six) three → Judged six three (model 2 one_edge) rows_without (Ok tt) rows_with
+unfolding row any_below
+with_edge kept stands = satisfied (model 2 one_edge) one_edge_formed [] six_concepts [] three rows_without rows_with (judgeable six three rows_without kept stands (omega arith))
+    (λ k l. absurd (omega arith))
+    (evaluated (model 2 one_edge) one_edge_formed six_concepts rows_with rows_without (omega arith) (omega arith) refl)
+    (λ k l. absurd (omega arith)) (all_lie three rows_with 6 refl)
+
+-- the same over one concept, with a transitive role
+
+abbrev pub transitive_vocabulary : Vocabulary
+transitive_vocabulary = vocabulary role_0_transitive (Top ∷ []) no_pair
+
+abbrev top : List ℕ
+top = row (0 ∷ [])
+
+pub chain_breaks : Kept transitive_vocabulary → LabelStands (concepts transitive_vocabulary) top
+    → Judged transitive_vocabulary top (model 3 chain) (rows (0 ∷ [])) (Err (RoleAxiom 0)) (rows (0 ∷ []))
+chain_breaks kept stands = record { formed = chain_formed; first_broken = (omega arith, chain_lacks, λ k l. absurd (omega arith)); rows_stay = refl }
+
+pub closed_chain_fits : Kept transitive_vocabulary → LabelStands (concepts transitive_vocabulary) top
+    → Judged transitive_vocabulary top (model 3 closed_chain) (rows (0 ∷ [])) (Ok tt) (rows (7 ∷ []))
+unfolding row any_below
+closed_chain_fits kept stands = satisfied (model 3 closed_chain) closed_chain_formed (Transitivity 0 ∷ []) (Top ∷ []) [] top (rows (0 ∷ [])) (rows (7 ∷ []))
+    (judgeable transitive_vocabulary top (rows (0 ∷ [])) kept stands (omega arith))
+    (below_more _ 0 (below_none _) closed_chain_has)
+    (evaluated (model 3 closed_chain) closed_chain_formed (Top ∷ []) (rows (7 ∷ [])) (rows (0 ∷ [])) (omega arith) (omega arith) refl)
+    (λ k l. absurd (omega arith)) (all_lie top (rows (7 ∷ [])) 1 refl)

@@ -1,0 +1,71 @@
+-- Small models, well formed and evaluated, by tests.
+use Rattle.std.proofs.Common.{◌≡◌, ℕ, zero, suc, ◌+◌, ◌*◌, ◌%◌, ◌<◌, ◌≤◌, Bool, true, false, not, ◌||◌, T, List, length, get_or, sym, refl, ◌∙◌, subst, arith}
+use Rattle.std.proofs.lemmas.Bool.{agree_below, agree_below_at}
+use Rattle.std.proofs.lemmas.Float.{T_from_true}
+use Rattle.std.proofs.lemmas.List.{get_or_past}
+use Rattle.register.specs.References.{Ordered}
+use Rattle.rows.specs.Rows.{contains}
+use Rattle.logic.specs.declared.concept.Concept.{Concept}
+use Rattle.logic.specs.declared.concept.Concept.TheVariants.{Top}
+use Rattle.logic.specs.Concepts.{parts}
+use Rattle.logic.specs.Interpretations.{Interpretation, leads, IsTransitive}
+use Rattle.models.specs.declared.Model.{Model}
+use Rattle.models.specs.Items.{edges_in, GoodEdge}
+use Rattle.models.specs.Models.{WellFormed, described}
+use Rattle.models.specs.Evaluation.{computed, RowsHold, Evaluated}
+use Rattle.models.proofs.MeaningFacts.{row_more}
+use Rattle.examples.specs.SmallDocket.{bytes, model}
+
+-- a model of few elements is well formed if its edges are good
+pub formed : (n : ℕ) (es : List ℕ) → 0 < n → n ≤ 256 → length (bytes es) % 6 ≡ 0 → edges_in (bytes es) ≤ 4096
+    → ((i : ℕ) → i < edges_in (bytes es) → GoodEdge (bytes es) n i) → WellFormed (model n es)
+formed n es some few whole short good = record {
+  sized = record { inhabited = some; few_elements = few; pointed = some; few_marks = omega arith; whole_marks = refl; whole_edges = whole; few_edges = short };
+  good_marks = λ k l. absurd (omega arith);
+  good_edges = good;
+}
+
+module _ (m : Model) (is_formed : WellFormed m) (cs : List Concept) (rows : List ℕ) where
+  -- whether each row has the elements that are computed from the rows
+  abbrev pub is_evaluated : ℕ → Bool
+  is_evaluated c = agree_below (contains rows c) (computed m rows (get_or cs c Top)) 256
+
+  hold : agree_below is_evaluated (λ c. true) (length cs) ≡ true → Ordered parts cs → (n : ℕ) → n ≤ length cs → RowsHold (described m) cs rows n
+  hold h o zero l = λ c e lc le. absurd (omega arith)
+  hold h o (suc n) l = subst (RowsHold (described m) cs rows) (let e : n + 1 ≡ suc n = omega arith in e) (row_more m is_formed cs rows rows n o l (hold h o n (omega arith)) (record {
+    elements = λ e le. agree_below_at (contains rows n) (computed m rows (get_or cs n Top)) 256 e (agree_below_at is_evaluated (λ c. true) (length cs) n h l) le;
+    others = λ i d. refl;
+  }))
+
+  pub evaluated : (old : List ℕ) → length rows ≤ 4 * length cs → length old ≤ 4 * length cs → agree_below is_evaluated (λ c. true) (length cs) ≡ true
+      → Ordered parts cs → Evaluated (described m) cs old rows
+  evaluated old few few-old h o = record {
+    rows_hold = hold h o (length cs) (omega arith);
+    rest_stays = λ i l. get_or_past rows i 0 (omega arith) ∙ sym (get_or_past old i 0 (omega arith));
+  }
+
+-- whether every number below n passes f
+abbrev pub every : ℕ → (ℕ → Bool) → Bool
+every n f = agree_below f (λ k. true) n
+
+pub every_at : (n : ℕ) (f : ℕ → Bool) (k : ℕ) → every n f ≡ true → k < n → T (f k)
+every_at n f k h l = T_from_true (f k) (agree_below_at f (λ k. true) n k h l)
+
+pub implied : (a b : Bool) → T (not a || b) → T a → T b
+implied true b h t = h
+implied false b h t = absurd t
+
+T_true : (b : Bool) → T b → b ≡ true
+T_true true h = refl
+T_true false h = absurd h
+
+-- whether two steps from x can be made as one
+abbrev shortens : Interpretation → (r x y z : ℕ) → Bool
+shortens I r x y z = not (leads I r x y) || (not (leads I r y z) || leads I r x z)
+
+pub transitive_in : (I : Interpretation) (r n : ℕ) → I.last < n → every n (λ x. every n (λ y. every n (shortens I r x y))) ≡ true → IsTransitive I r
+transitive_in I r n l h x y z hx hy hz t u =
+    let one = every_at n (λ x. every n (λ y. every n (shortens I r x y))) x h (omega arith) in
+    let two = every_at n (λ y. every n (shortens I r x y)) y (T_true (every n (λ y. every n (shortens I r x y))) one) (omega arith) in
+    let three = every_at n (shortens I r x y) z (T_true (every n (shortens I r x y)) two) (omega arith) in
+    implied (leads I r y z) (leads I r x z) (implied (leads I r x y) _ three t) u

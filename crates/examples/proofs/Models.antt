@@ -1,0 +1,48 @@
+-- The models of the table, and how the small dockets judge them.
+use Rattle.std.proofs.Common.{[], sym, refl, subst, inl, inr, arith}
+use borrow.Author.Count.{below_none, below_more}
+use mathlib.Core.List.Memᴰ
+use Rattle.logic.specs.declared.role.RoleAxiom.TheVariants.{Transitivity}
+use Rattle.logic.specs.Interpretations.{MeetsRoleAxiom, IsTransitive}
+use Rattle.models.specs.Items.{any_below}
+use Rattle.models.specs.Models.{WellFormed, described}
+use Rattle.examples.specs.Cases.{AllHold}
+use Rattle.examples.specs.SmallDocket.{model, one_edge, chain, closed_chain}
+use Rattle.examples.specs.ModelCases.{model_cases}
+use Rattle.examples.proofs.Judging.{formed, transitive_in}
+
+-- the models are well formed
+
+pub no_edge_formed : WellFormed (model 2 [])
+no_edge_formed = formed 2 [] (omega arith) (omega arith) refl (omega arith) (λ i l. absurd (omega arith))
+
+pub one_edge_formed : WellFormed (model 2 one_edge)
+one_edge_formed = formed 2 one_edge (omega arith) (omega arith) refl (omega arith) (below_more _ 0 (below_none _)
+    (record { role_in_range = omega arith; from_in_range = omega arith; to_in_range = omega arith; edge_rises = λ h. absurd (omega arith) }))
+
+pub chain_formed : WellFormed (model 3 chain)
+chain_formed = formed 3 chain (omega arith) (omega arith) refl (omega arith) (below_more _ 1 (below_more _ 0 (below_none _)
+    (record { role_in_range = omega arith; from_in_range = omega arith; to_in_range = omega arith; edge_rises = λ h. absurd (omega arith) }))
+    (record { role_in_range = omega arith; from_in_range = omega arith; to_in_range = omega arith; edge_rises = λ h. inr (refl, inl (omega arith)) }))
+
+pub closed_chain_formed : WellFormed (model 3 closed_chain)
+closed_chain_formed = formed 3 closed_chain (omega arith) (omega arith) refl (omega arith) (below_more _ 2 (below_more _ 1 (below_more _ 0 (below_none _)
+    (record { role_in_range = omega arith; from_in_range = omega arith; to_in_range = omega arith; edge_rises = λ h. absurd (omega arith) }))
+    (record { role_in_range = omega arith; from_in_range = omega arith; to_in_range = omega arith; edge_rises = λ h. inr (refl, inr (refl, omega arith)) }))
+    (record { role_in_range = omega arith; from_in_range = omega arith; to_in_range = omega arith; edge_rises = λ h. inr (refl, inl (omega arith)) }))
+
+-- the chain is not transitive, and with its shortcut it is
+
+pub chain_lacks : IsTransitive (described (model 3 chain)) 0 → ⊥
+unfolding any_below
+chain_lacks h = h 0 1 2 (omega arith) (omega arith) (omega arith) tt tt
+
+pub closed_chain_has : IsTransitive (described (model 3 closed_chain)) 0
+unfolding any_below
+closed_chain_has = transitive_in (described (model 3 closed_chain)) 0 3 (omega arith) refl
+
+pub models_hold : AllHold model_cases
+models_hold = (
+  λ h. chain_lacks (h (Transitivity 0) (Memᴰ.head refl)),
+  (λ a m. subst (MeetsRoleAxiom (described (model 3 closed_chain))) (sym (Memᴰ.eq_of_singleton m)) closed_chain_has, tt),
+)

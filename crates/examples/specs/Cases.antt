@@ -1,0 +1,50 @@
+-- Worked cases, and what each says.
+use Rattle.std.specs.Prelude.{◌≡◌, Bool, true, false, List, [], ◌∷◌, ℕ}
+use Rattle.refusals.specs.declared.Refusal.{Refusal}
+use Rattle.refusals.specs.Table.{returned}
+use Rattle.bits.specs.Bits.{has}
+use Rattle.labels.specs.Labels.{row}
+use Rattle.logic.specs.declared.role.RoleAxiom.{RoleAxiom}
+use Rattle.logic.specs.Roles.{Below, Transitive}
+use Rattle.logic.specs.Interpretations.{MeetsRoleAxioms}
+use Rattle.vocabulary.specs.declared.Vocabulary.{Vocabulary}
+use Rattle.schemas.specs.Table.{Applies}
+use Rattle.models.specs.declared.Model.{Model}
+use Rattle.models.specs.Models.{described}
+use Rattle.docket.specs.declared.Docket.{Docket}
+use Rattle.docket.specs.Dockets.{Fresh}
+use Rattle.facts.specs.Events.{Event, Ran}
+
+pub data Case : Type 0 where
+  -- under these role axioms role r is below role s, or it isn't
+  below : List RoleAxiom → (r s : ℕ) → Bool → Case
+  -- under these role axioms role r is transitive, or it isn't
+  transitive : List RoleAxiom → (r : ℕ) → Bool → Case
+  -- with this vocabulary, and at the label with these members, the step applies, or it doesn't
+  applies : Vocabulary → List ℕ → (rule p q s : ℕ) → Bool → Case
+  -- the model meets these role axioms, or it doesn't
+  meets : Model → List RoleAxiom → Bool → Case
+  -- the docket was just opened
+  opens : Docket → Case
+  -- the first docket becomes the second as these calls are made, and so answered
+  runs : Docket → List Event → Docket → Case
+  -- the refusal is returned as this number and this place
+  returns : Refusal → (number place : ℕ) → Case
+
+-- the statement holds, or it doesn't
+abbrev pub Is : Type 0 → Bool → Type 0
+Is P true = P
+Is P false = P → ⊥
+
+abbrev pub Holds : Case → Type 0
+Holds (below axioms r s b) = Is (Below axioms r s) b
+Holds (transitive axioms r b) = Is (Transitive axioms r) b
+Holds (applies v ms rule p q s b) = Is (Applies v (has (row ms)) rule p q s) b
+Holds (meets m axioms b) = Is (MeetsRoleAxioms (described m) axioms) b
+Holds (opens d) = Fresh d
+Holds (runs d xs e) = Ran d xs e
+Holds (returns x number place) = returned x ≡ (number, place)
+
+abbrev pub AllHold : List Case → Type 0
+AllHold [] = Unit {0}
+AllHold (c ∷ cs) = Holds c × AllHold cs
