@@ -8,7 +8,6 @@ use Rattle.rows.specs.Rows.{contains}
 use Rattle.logic.specs.declared.concept.Concept.{Concept}
 use Rattle.logic.specs.declared.concept.Concept.TheVariants.{Top}
 use Rattle.logic.specs.Concepts.{parts}
-use Rattle.logic.specs.Interpretations.{Interpretation, leads, IsTransitive}
 use Rattle.models.specs.declared.Model.{Model}
 use Rattle.models.specs.Items.{edges_in, GoodEdge}
 use Rattle.models.specs.Models.{WellFormed, described}
@@ -54,18 +53,3 @@ every_at n f k h l = T_from_true (f k) (agree_below_at f (λ k. true) n k h l)
 pub implied : (a b : Bool) → T (not a || b) → T a → T b
 implied true b h t = h
 implied false b h t = absurd t
-
-T_true : (b : Bool) → T b → b ≡ true
-T_true true h = refl
-T_true false h = absurd h
-
--- whether two steps from x can be made as one
-abbrev shortens : Interpretation → (r x y z : ℕ) → Bool
-shortens I r x y z = not (leads I r x y) || (not (leads I r y z) || leads I r x z)
-
-pub transitive_in : (I : Interpretation) (r n : ℕ) → I.last < n → every n (λ x. every n (λ y. every n (shortens I r x y))) ≡ true → IsTransitive I r
-transitive_in I r n l h x y z hx hy hz t u =
-    let one = every_at n (λ x. every n (λ y. every n (shortens I r x y))) x h (omega arith) in
-    let two = every_at n (λ y. every n (shortens I r x y)) y (T_true (every n (λ y. every n (shortens I r x y))) one) (omega arith) in
-    let three = every_at n (shortens I r x y) z (T_true (every n (shortens I r x y)) two) (omega arith) in
-    implied (leads I r y z) (leads I r x z) (implied (leads I r x y) _ three t) u

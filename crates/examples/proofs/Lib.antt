@@ -1,8 +1,10 @@
 mod Tests
+mod Meeting
 mod Passing
-mod Reaching
 mod Judging
 mod Models
 mod Claims
+mod Opening
 mod Running
+mod Reaching
 mod Steps

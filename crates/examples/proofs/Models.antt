@@ -1,15 +1,13 @@
--- The models of the table, and how the small dockets judge them.
+-- The models of the table.
 use Rattle.std.proofs.Common.{[], sym, refl, subst, inl, inr, arith}
 use borrow.Author.Count.{below_none, below_more}
 use mathlib.Core.List.Memᴰ
 use Rattle.logic.specs.declared.role.RoleAxiom.TheVariants.{Transitivity}
 use Rattle.logic.specs.Interpretations.{MeetsRoleAxiom, IsTransitive}
-use Rattle.models.specs.Items.{any_below}
 use Rattle.models.specs.Models.{WellFormed, described}
-use Rattle.examples.specs.Cases.{AllHold}
 use Rattle.examples.specs.SmallDocket.{model, one_edge, chain, closed_chain}
-use Rattle.examples.specs.ModelCases.{model_cases}
-use Rattle.examples.proofs.Judging.{formed, transitive_in}
+use Rattle.examples.proofs.Passing.{models_hold}
+use Rattle.examples.proofs.Judging.{formed}
 
 -- the models are well formed
 
@@ -34,15 +32,7 @@ closed_chain_formed = formed 3 closed_chain (omega arith) (omega arith) refl (om
 -- the chain is not transitive, and with its shortcut it is
 
 pub chain_lacks : IsTransitive (described (model 3 chain)) 0 → ⊥
-unfolding any_below
-chain_lacks h = h 0 1 2 (omega arith) (omega arith) (omega arith) tt tt
+chain_lacks t = models_hold.0 (λ a m. subst (MeetsRoleAxiom (described (model 3 chain))) (sym (Memᴰ.eq_of_singleton m)) t)
 
 pub closed_chain_has : IsTransitive (described (model 3 closed_chain)) 0
-unfolding any_below
-closed_chain_has = transitive_in (described (model 3 closed_chain)) 0 3 (omega arith) refl
-
-pub models_hold : AllHold model_cases
-models_hold = (
-  λ h. chain_lacks (h (Transitivity 0) (Memᴰ.head refl)),
-  (λ a m. subst (MeetsRoleAxiom (described (model 3 closed_chain))) (sym (Memᴰ.eq_of_singleton m)) closed_chain_has, tt),
-)
+closed_chain_has = models_hold.1.0 (Transitivity 0) (Memᴰ.head refl)

@@ -1,40 +1,39 @@
--- The small docket is reached, so its vocabulary keeps what vocabularies keep.
-use Rattle.std.proofs.Common.{◌≡◌, ℕ, ◌/◌, ◌%◌, List, [], ◌∷◌, replicate, None, Option, sym, refl, subst, arith}
-use mathlib.Core.List.Memᴰ
-use Rattle.std.proofs.lemmas.List.FromFn.{get_or-map-range_with_len}
-use Rattle.closure.specs.Closure.{own_word, Exact}
-use Rattle.closure.proofs.Exactness.{exact_start}
-use Rattle.vocabulary.specs.Roles.{RolesKept}
-use Rattle.vocabulary.proofs.RoleTables.{transitive_none}
+-- The small docket is reached.
+use Rattle.std.proofs.Common.{List, [], ◌∷◌, ◌++◌, sym, subst}
+use Rattle.schemas.proofs.HouseLaws.{house_lawful}
 use Rattle.docket.specs.declared.Docket.{Docket}
-use Rattle.docket.specs.Dockets.{Fresh}
-use Rattle.docket.specs.Runs.{Lent, Reached, called}
+use Rattle.docket.specs.Runs.{Lent, Reached, began, called}
 use Rattle.facts.specs.Events.{Event, Ran, Each}
-use Rattle.examples.specs.SmallDocket.{own_words, no_role_axiom, no_mates}
-use Rattle.examples.specs.RunCases.{opened}
-
-own_words_exact : Exact own_words 128 []
-unfolding own_words
-own_words_exact = exact_start own_words 128 (λ i l. get_or-map-range_with_len (λ i. own_word (i / 2) (i % 2)) 0 256 i i 0 l (omega arith))
-
-no_role_axiom_kept : RolesKept no_role_axiom
-no_role_axiom_kept = record { names = λ a m. absurd (Memᴰ.not-nil m); below = own_words_exact; transitive = transitive_none }
-
-all_single : ◌≡◌ {A = List (Option ℕ)} (None ∷ None ∷ None ∷ None ∷ None ∷ no_mates) (replicate 1024 None)
-unfolding no_mates
-all_single = refl
-
-pub opened_fresh : Fresh opened
-opened_fresh = record {
-  unsealed = refl;
-  nothing_said = record { no_role_axiom = refl; roles_kept = no_role_axiom_kept; no_concept = refl; no_mate = all_single; no_axiom = refl; no_axiom_bit = refl };
-  no_line = refl;
-  no_claim = refl;
-  concept_room = (omega arith, omega arith);
-  line_room = (omega arith, omega arith);
-}
+use Rattle.examples.specs.Cases.{AllHold}
+use Rattle.examples.specs.RunCases.{opened, vocabulary_events, sealed, line_events, with_lines, claim_events, with_claims, astray_events, all_events, at_last, run_cases}
+use Rattle.examples.proofs.Opening.{opened_fresh}
+use Rattle.examples.proofs.Running.{vocabulary_ran, lines_ran, claims_ran, astray_ran, transitive_ran}
 
 -- what a run leads to is reached, if the banks that are lent are lawful
 pub reached_run : (xs : List Event) (d e : Docket) → Reached d → Each (λ x. Lent x.call) xs → Ran d xs e → Reached e
 reached_run [] d e p l r = subst Reached (sym r) p
 reached_run (x ∷ xs) d e p l r = reached_run xs r.0 e (called x.call x.answer p l.0 r.1) l.1 r.2
+
+-- the small docket is reached when it is sealed and at last
+pub sealed_reached : Reached sealed
+sealed_reached = reached_run vocabulary_events opened sealed (began opened_fresh) (tt, (tt, (tt, (tt, (tt, (tt, (tt, (tt, (tt, tt))))))))) vocabulary_ran
+
+pub last_reached : Reached at_last
+last_reached =
+    let lines = reached_run line_events sealed with_lines sealed_reached (house_lawful, (house_lawful, (house_lawful, (house_lawful, (house_lawful, tt))))) lines_ran in
+    let claims = reached_run claim_events with_lines with_claims lines (tt, (tt, (tt, (tt, (tt, (tt, (tt, tt))))))) claims_ran in
+    reached_run astray_events with_claims at_last claims (tt, (house_lawful, tt)) astray_ran
+
+-- one run after another
+ran_append : (xs ys : List Event) (d m e : Docket) → Ran d xs m → Ran m ys e → Ran d (xs ++ ys) e
+ran_append [] ys d m e p q = subst (λ x. Ran x ys e) p q
+ran_append (x ∷ xs) ys d m e p q = (p.0, p.1, ran_append xs ys p.0 m e p.2 q)
+
+all_ran : Ran opened all_events at_last
+all_ran =
+    ran_append vocabulary_events (line_events ++ (claim_events ++ astray_events)) opened sealed at_last vocabulary_ran
+    (ran_append line_events (claim_events ++ astray_events) sealed with_lines at_last lines_ran
+    (ran_append claim_events astray_events with_lines with_claims at_last claims_ran astray_ran))
+
+pub runs_hold : AllHold run_cases
+runs_hold = (opened_fresh, (vocabulary_ran, (lines_ran, (claims_ran, (astray_ran, (all_ran, (last_reached, (transitive_ran, tt))))))))

@@ -1,5 +1,5 @@
 -- The runs of the small dockets.
-use Rattle.std.proofs.Common.{ℕ, List, [], ◌∷◌, ◌++◌, Some, None, Option, refl, subst, inr, arith}
+use Rattle.std.proofs.Common.{ℕ, List, [], ◌∷◌, Some, None, Option, refl, inr, arith}
 use Rattle.logic.specs.declared.concept.Concept.{Concept}
 use Rattle.logic.specs.declared.concept.Concept.TheVariants.{Top, Name, NotName, Only, Exists}
 use Rattle.logic.specs.declared.role.RoleAxiom.TheVariants.{Transitivity}
@@ -18,11 +18,9 @@ use Rattle.docket.specs.declared.Docket.{Docket}
 use Rattle.docket.specs.declared.phase.Phase.{Phase}
 use Rattle.docket.specs.declared.phase.Phase.TheVariants.{Open, Sealed}
 use Rattle.docket.specs.Fields.{Written}
-use Rattle.facts.specs.Events.{Event, Ran}
-use Rattle.examples.specs.Cases.{AllHold}
+use Rattle.facts.specs.Events.{Ran}
 use Rattle.examples.specs.SmallDocket.{no_role_axiom, role_0_transitive, vocabulary, docket, six_concepts, two_pairs, no_pair, six, clash, other_clash, neighbour, four_lines, claim_of}
-use Rattle.examples.specs.RunCases.{opened, vocabulary_events, sealed, line_events, with_lines, claim_events, with_claims, astray_events, at_last, transitive_events, with_transitive_role, run_cases}
-use Rattle.examples.proofs.Reaching.{opened_fresh}
+use Rattle.examples.specs.RunCases.{opened, vocabulary_events, sealed, line_events, with_lines, claim_events, with_claims, astray_events, at_last, transitive_events, with_transitive_role}
 use Rattle.examples.proofs.Claims.{without_edge, with_edge, transitive_vocabulary, chain_breaks, closed_chain_fits}
 
 -- an open docket with these concepts and these mates
@@ -191,30 +189,3 @@ transitive_ran =
         ),
       ),
     )
-
--- one run after another
-ran_append : (xs ys : List Event) (d m e : Docket) → Ran d xs m → Ran m ys e → Ran d (xs ++ ys) e
-ran_append [] ys d m e p q = subst (λ x. Ran x ys e) p q
-ran_append (x ∷ xs) ys d m e p q = (p.0, p.1, ran_append xs ys p.0 m e p.2 q)
-
-pub runs_hold : AllHold run_cases
-runs_hold = (
-  opened_fresh,
-  (
-    vocabulary_ran,
-    (
-      lines_ran,
-      (
-        claims_ran,
-        (
-          astray_ran,
-          (
-            ran_append vocabulary_events (line_events ++ (claim_events ++ astray_events)) opened sealed at_last vocabulary_ran (ran_append line_events (claim_events ++ astray_events) sealed with_lines at_last lines_ran
-                (ran_append claim_events astray_events with_lines with_claims at_last claims_ran astray_ran)),
-            (transitive_ran, (refl, (refl, (refl, (refl, (refl, tt)))))),
-          ),
-        ),
-      ),
-    ),
-  ),
-)

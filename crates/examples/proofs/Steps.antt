@@ -7,25 +7,13 @@ use Rattle.vocabulary.specs.declared.Vocabulary.{Vocabulary}
 use Rattle.vocabulary.specs.Keeping.{Kept}
 use Rattle.schemas.specs.Table.{Applies}
 use Rattle.schemas.specs.House.{house}
-use Rattle.schemas.proofs.HouseLaws.{house_is_the_table, house_lawful}
-use Rattle.docket.specs.Runs.{Reached, began}
+use Rattle.schemas.proofs.HouseLaws.{house_is_the_table}
 use Rattle.docket.proofs.Reaching.{reached_kept}
 use Rattle.examples.specs.Cases.{Is, AllHold}
 use Rattle.examples.specs.SmallDocket.{six, seven}
-use Rattle.examples.specs.RunCases.{opened, vocabulary_events, sealed, line_events, with_lines, claim_events, with_claims, astray_events, at_last}
+use Rattle.examples.specs.RunCases.{sealed, at_last}
 use Rattle.examples.specs.StepCases.{step_cases}
-use Rattle.examples.proofs.Reaching.{opened_fresh, reached_run}
-use Rattle.examples.proofs.Running.{vocabulary_ran, lines_ran, claims_ran, astray_ran}
-
--- the small docket is reached when it is sealed and at last
-sealed_reached : Reached sealed
-sealed_reached = reached_run vocabulary_events opened sealed (began opened_fresh) (tt, (tt, (tt, (tt, (tt, (tt, (tt, (tt, (tt, tt))))))))) vocabulary_ran
-
-last_reached : Reached at_last
-last_reached =
-    let lines = reached_run line_events sealed with_lines sealed_reached (house_lawful, (house_lawful, (house_lawful, (house_lawful, (house_lawful, tt))))) lines_ran in
-    let claims = reached_run claim_events with_lines with_claims lines (tt, (tt, (tt, (tt, (tt, (tt, (tt, tt))))))) claims_ran in
-    reached_run astray_events with_claims at_last claims (tt, (house_lawful, tt)) astray_ran
+use Rattle.examples.proofs.Reaching.{sealed_reached, last_reached}
 
 six_kept : Kept six
 six_kept = reached_kept sealed sealed_reached

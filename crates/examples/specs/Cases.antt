@@ -13,6 +13,7 @@ use Rattle.models.specs.declared.Model.{Model}
 use Rattle.models.specs.Models.{described}
 use Rattle.docket.specs.declared.Docket.{Docket}
 use Rattle.docket.specs.Dockets.{Fresh}
+use Rattle.docket.specs.Runs.{Reached}
 use Rattle.facts.specs.Events.{Event, Ran}
 
 pub data Case : Type 0 where
@@ -26,6 +27,8 @@ pub data Case : Type 0 where
   meets : Model → List RoleAxiom → Bool → Case
   -- the docket was just opened
   opens : Docket → Case
+  -- the docket began new, and only calls have acted on it since
+  reaches : Docket → Case
   -- the first docket becomes the second as these calls are made, and so answered
   runs : Docket → List Event → Docket → Case
   -- the refusal is returned as this number and this place
@@ -42,6 +45,7 @@ Holds (transitive axioms r b) = Is (Transitive axioms r) b
 Holds (applies v ms rule p q s b) = Is (Applies v (has (row ms)) rule p q s) b
 Holds (meets m axioms b) = Is (MeetsRoleAxioms (described m) axioms) b
 Holds (opens d) = Fresh d
+Holds (reaches d) = Reached d
 Holds (runs d xs e) = Ran d xs e
 Holds (returns x number place) = returned x ≡ (number, place)
 

@@ -10,7 +10,7 @@ use Rattle.docket.specs.declared.Docket.{Docket}
 use Rattle.docket.specs.declared.phase.Phase.TheVariants.{Open, Sealed}
 use Rattle.docket.specs.Calls.{Call, transitivity, concept, pair, seal, line, claim, close_empty, close_inhabited}
 use Rattle.facts.specs.Events.{Event}
-use Rattle.examples.specs.Cases.{Case, opens, runs, returns}
+use Rattle.examples.specs.Cases.{Case, opens, reaches, runs, returns}
 use Rattle.examples.specs.SmallDocket.{no_role_axiom, role_0_transitive, vocabulary, docket, no_pair, six, seven, clash, other_clash, neighbour, cut_with, four_lines, claim_of, model, one_edge, chain, closed_chain, rows}
 
 abbrev pub event : Call → Result ℕ Refusal → Event
@@ -72,6 +72,10 @@ with_claims = docket Sealed six four_lines closed_claims
 abbrev pub astray_events : List Event
 astray_events = event (concept 6 1 4) (Ok 6) ∷ event (line house (cut_with 6)) (Err (Inapplicable 8)) ∷ []
 
+-- all of it as one run
+abbrev pub all_events : List Event
+all_events = vocabulary_events ++ (line_events ++ (claim_events ++ astray_events))
+
 abbrev pub at_last : Docket
 at_last = docket Sealed seven four_lines closed_claims
 
@@ -96,13 +100,12 @@ run_cases =
     ∷ runs sealed line_events with_lines
     ∷ runs with_lines claim_events with_claims
     ∷ runs with_claims astray_events at_last
-    -- all of it as one run
-    ∷ runs opened (vocabulary_events ++ (line_events ++ (claim_events ++ astray_events))) at_last
+    ∷ runs opened all_events at_last
+    ∷ reaches at_last
+    -- another docket
     ∷ runs opened transitive_events with_transitive_role
-    -- the refusals by number and place
-    ∷ returns (Absent 4) 4 4
-    ∷ returns (Inapplicable 8) 8 8
-    ∷ returns (Outside 3) 11 3
-    ∷ returns (RoleAxiom 0) 13 0
-    ∷ returns (Point 3) 15 3
     ∷ []
+
+-- the refusals that are met here
+abbrev pub refusal_cases : List Case
+refusal_cases = returns (Absent 4) 4 4 ∷ returns (Inapplicable 8) 8 8 ∷ returns (Outside 3) 11 3 ∷ returns (RoleAxiom 0) 13 0 ∷ returns (Point 3) 15 3 ∷ []
