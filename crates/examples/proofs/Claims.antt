@@ -1,5 +1,5 @@
--- Claims that are closed by models.
-use Rattle.std.proofs.Common.{◌≡◌, ℕ, ◌*◌, ◌<◌, ◌≤◌, Bool, true, not, ◌||◌, T, List, [], ◌∷◌, length, Ok, Err, refl, below_more, arith}
+-- Calls that close claims by models.
+use Rattle.std.proofs.Common.{◌≡◌, ℕ, ◌*◌, ◌<◌, ◌≤◌, Bool, true, not, ◌||◌, T, List, [], ◌∷◌, length, Ok, Err, refl, inr, below_more, arith}
 use borrow.Author.Count.{below_none}
 use Rattle.std.proofs.lemmas.Float.{T_from_true}
 use Rattle.refusals.specs.declared.Refusal.TheVariants.{RoleAxiom, Point}
@@ -12,9 +12,14 @@ use Rattle.vocabulary.specs.declared.Vocabulary.{Vocabulary}
 use Rattle.vocabulary.specs.Keeping.{Kept}
 use Rattle.vocabulary.specs.Vocabularies.{concepts, axioms}
 use Rattle.models.specs.Items.{any_below}
-use Rattle.models.specs.Judging.{LabelStands, Judged}
+use Rattle.models.specs.Judging.{LabelStands}
 use Rattle.models.proofs.JudgingFacts.{Judgeable, satisfied, point_missed}
-use Rattle.examples.specs.SmallDocket.{vocabulary, role_0_transitive, no_pair, six, six_concepts, model, one_edge, chain, closed_chain, rows}
+use Rattle.claims.specs.declared.Status.TheVariants.{Open as Unsettled, Inhabited}
+use Rattle.docket.specs.declared.Docket.{Docket}
+use Rattle.docket.specs.declared.phase.Phase.TheVariants.{Sealed}
+use Rattle.docket.specs.Calls.{JudgedFor, Acts}
+use Rattle.examples.specs.RunCases.{claimed, without_edge, with_edge, with_role, by_chain, by_closed_chain, with_chain}
+use Rattle.examples.specs.SmallDocket.{docket, six, one_transitive, six_concepts, four_lines, claim_of, model, one_edge, chain, closed_chain, rows}
 use Rattle.examples.proofs.Judging.{evaluated, every, every_at, implied}
 use Rattle.examples.proofs.Models.{no_edge_formed, one_edge_formed, chain_formed, closed_chain_formed, chain_lacks, closed_chain_has}
 
@@ -49,37 +54,48 @@ lie label rows c = not (has label c) || contains rows c 0
 all_lie : (label rows : List ℕ) (n : ℕ) → every n (lie label rows) ≡ true → (c : ℕ) → c < n → has label c ≡ true → T (contains rows c 0)
 all_lie label rows n h c l i = implied (has label c) (contains rows c 0) (every_at n (lie label rows) c h l) (T_from_true (has label c) i)
 
-pub without_edge : Kept six → LabelStands (concepts six) three → Judged six three (model 2 []) blank_rows (Err (Point 3)) rows_without
+pub edge_missing : Acts without_edge claimed (Err (Point 3)) claimed
 unfolding row any_below
-without_edge kept stands = point_missed (model 2 []) no_edge_formed [] six_concepts [] three blank_rows rows_without (judgeable six three blank_rows kept stands (omega arith))
+edge_missing =
+    let judged : JudgedFor claimed 2 (model 2 []) blank_rows (Err (Point 3)) rows_without = λ kept stands.
+    point_missed (model 2 []) no_edge_formed [] six_concepts [] three blank_rows rows_without (judgeable six three blank_rows kept stands (omega arith))
     (λ k l. absurd (omega arith))
     (evaluated (model 2 []) no_edge_formed six_concepts rows_without blank_rows (omega arith) (omega arith) refl)
-    3 (λ k l. absurd (omega arith)) (omega arith, λ p. p refl, all_lie three rows_without 3 refl)
+    3 (λ k l. absurd (omega arith)) (omega arith, λ p. p refl, all_lie three rows_without 3 refl) in
+    (inr (refl, judged), refl)
 
-pub with_edge : Kept six → LabelStands (concepts six) three → Judged six three (model 2 one_edge) rows_without (Ok tt) rows_with
+-- claim 2 is closed
+abbrev pub one_closed : Docket
+one_closed = docket Sealed six four_lines (claim_of (0 ∷ 3 ∷ []) Unsettled ∷ claim_of (0 ∷ []) Unsettled ∷ claim_of (3 ∷ []) Inhabited ∷ [])
+
+pub edge_fits : Acts with_edge claimed (Ok 0) one_closed
 unfolding row any_below
-with_edge kept stands = satisfied (model 2 one_edge) one_edge_formed [] six_concepts [] three rows_without rows_with (judgeable six three rows_without kept stands (omega arith))
+edge_fits =
+    let judged : JudgedFor claimed 2 (model 2 one_edge) rows_without (Ok tt) rows_with = λ kept stands.
+    satisfied (model 2 one_edge) one_edge_formed [] six_concepts [] three rows_without rows_with (judgeable six three rows_without kept stands (omega arith))
     (λ k l. absurd (omega arith))
     (evaluated (model 2 one_edge) one_edge_formed six_concepts rows_with rows_without (omega arith) (omega arith) refl)
-    (λ k l. absurd (omega arith)) (all_lie three rows_with 6 refl)
+    (λ k l. absurd (omega arith)) (all_lie three rows_with 6 refl) in
+    ((refl, judged), ((omega arith, refl), refl, refl, refl), refl)
 
 -- the same over one concept, with a transitive role
-
-abbrev pub transitive_vocabulary : Vocabulary
-transitive_vocabulary = vocabulary role_0_transitive (Top ∷ []) no_pair
 
 abbrev top : List ℕ
 top = row (0 ∷ [])
 
-pub chain_breaks : Kept transitive_vocabulary → LabelStands (concepts transitive_vocabulary) top
-    → Judged transitive_vocabulary top (model 3 chain) (rows (0 ∷ [])) (Err (RoleAxiom 0)) (rows (0 ∷ []))
-chain_breaks kept stands = record { formed = chain_formed; first_broken = (omega arith, chain_lacks, λ k l. absurd (omega arith)); rows_stay = refl }
+pub chain_breaks : Acts by_chain with_role (Err (RoleAxiom 0)) with_role
+chain_breaks =
+    let judged : JudgedFor with_role 0 (model 3 chain) (rows (0 ∷ [])) (Err (RoleAxiom 0)) (rows (0 ∷ [])) = λ kept stands.
+    record { formed = chain_formed; first_broken = (omega arith, chain_lacks, λ k l. absurd (omega arith)); rows_stay = refl } in
+    (inr (refl, judged), refl)
 
-pub closed_chain_fits : Kept transitive_vocabulary → LabelStands (concepts transitive_vocabulary) top
-    → Judged transitive_vocabulary top (model 3 closed_chain) (rows (0 ∷ [])) (Ok tt) (rows (7 ∷ []))
+pub closed_chain_fits : Acts by_closed_chain with_role (Ok 0) with_chain
 unfolding row any_below
-closed_chain_fits kept stands = satisfied (model 3 closed_chain) closed_chain_formed (Transitivity 0 ∷ []) (Top ∷ []) [] top (rows (0 ∷ [])) (rows (7 ∷ []))
-    (judgeable transitive_vocabulary top (rows (0 ∷ [])) kept stands (omega arith))
+closed_chain_fits =
+    let judged : JudgedFor with_role 0 (model 3 closed_chain) (rows (0 ∷ [])) (Ok tt) (rows (7 ∷ [])) = λ kept stands.
+    satisfied (model 3 closed_chain) closed_chain_formed (Transitivity 0 ∷ []) (Top ∷ []) [] top (rows (0 ∷ [])) (rows (7 ∷ []))
+    (judgeable one_transitive top (rows (0 ∷ [])) kept stands (omega arith))
     (below_more _ 0 (below_none _) closed_chain_has)
     (evaluated (model 3 closed_chain) closed_chain_formed (Top ∷ []) (rows (7 ∷ [])) (rows (0 ∷ [])) (omega arith) (omega arith) refl)
-    (λ k l. absurd (omega arith)) (all_lie top (rows (7 ∷ [])) 1 refl)
+    (λ k l. absurd (omega arith)) (all_lie top (rows (7 ∷ [])) 1 refl) in
+    ((refl, judged), ((omega arith, refl), refl, refl, refl), refl)

@@ -4,7 +4,10 @@ mod Passing
 mod Judging
 mod Models
 mod Claims
+mod OneJudgement
+mod OneAnswer
 mod Opening
 mod Running
 mod Reaching
 mod Steps
+mod Runs

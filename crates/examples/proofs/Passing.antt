@@ -13,7 +13,7 @@ use Rattle.closure.proofs.Decided.{below_decided}
 use Rattle.models.specs.Items.{any_below}
 use Rattle.models.specs.Models.{described}
 use Rattle.models.proofs.Tests.{and_out}
-use Rattle.examples.specs.Cases.{Case, below, transitive, applies, meets, opens, reaches, runs, returns, Is, Holds, AllHold}
+use Rattle.examples.specs.Cases.{Case, below, transitive, applies, meets, opens, reaches, runs, answers, returns, Is, Holds, AllHold}
 use Rattle.examples.specs.RoleCases.{role_cases}
 use Rattle.examples.specs.RunCases.{refusal_cases}
 use Rattle.examples.specs.ModelCases.{model_cases}
@@ -35,6 +35,7 @@ passes (applies v ms rule p q s said) = false
 passes (opens d) = false
 passes (reaches d) = false
 passes (runs d xs e) = false
+passes (answers d c a) = false
 
 abbrev all_pass : List Case → Bool
 all_pass [] = true
@@ -61,6 +62,7 @@ passed (applies v ms rule p q s said) h = absurd h
 passed (opens d) h = absurd h
 passed (reaches d) h = absurd h
 passed (runs d xs e) h = absurd h
+passed (answers d c a) h = absurd h
 
 all_hold : (cs : List Case) → T (all_pass cs) → AllHold cs
 all_hold [] h = tt

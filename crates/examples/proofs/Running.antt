@@ -1,5 +1,5 @@
 -- The runs of the small dockets.
-use Rattle.std.proofs.Common.{ℕ, List, [], ◌∷◌, Some, None, Option, refl, inr, arith}
+use Rattle.std.proofs.Common.{ℕ, List, [], ◌∷◌, Some, None, Option, refl, arith}
 use Rattle.logic.specs.declared.concept.Concept.{Concept}
 use Rattle.logic.specs.declared.concept.Concept.TheVariants.{Top, Name, NotName, Only, Exists}
 use Rattle.logic.specs.declared.role.RoleAxiom.TheVariants.{Transitivity}
@@ -7,21 +7,19 @@ use Rattle.logic.specs.Concepts.{tag, first, second}
 use Rattle.labels.specs.Least.{least}
 use Rattle.labels.specs.Labels.{row}
 use Rattle.vocabulary.proofs.RoleTables.{kept_transitivity}
-use Rattle.claims.specs.declared.Status.{Status}
-use Rattle.claims.specs.declared.Status.TheVariants.{Open as Unsettled, Empty}
+use Rattle.claims.specs.declared.Status.TheVariants.{Open as Unsettled}
 use Rattle.claims.specs.declared.Claim.{Claim}
 use Rattle.schemas.specs.Tests.{some_below}
 use Rattle.schemas.specs.House.{house}
 use Rattle.book.specs.declared.line.Line.{Line}
 use Rattle.book.specs.Drafts.{line_of}
 use Rattle.docket.specs.declared.Docket.{Docket}
-use Rattle.docket.specs.declared.phase.Phase.{Phase}
 use Rattle.docket.specs.declared.phase.Phase.TheVariants.{Open, Sealed}
 use Rattle.docket.specs.Fields.{Written}
 use Rattle.facts.specs.Events.{Ran}
-use Rattle.examples.specs.SmallDocket.{no_role_axiom, role_0_transitive, vocabulary, docket, six_concepts, two_pairs, no_pair, six, clash, other_clash, neighbour, four_lines, claim_of}
-use Rattle.examples.specs.RunCases.{opened, vocabulary_events, sealed, line_events, with_lines, claim_events, with_claims, astray_events, at_last, transitive_events, with_transitive_role}
-use Rattle.examples.proofs.Claims.{without_edge, with_edge, transitive_vocabulary, chain_breaks, closed_chain_fits}
+use Rattle.examples.specs.SmallDocket.{no_role_axiom, role_0_transitive, vocabulary, docket, six_concepts, two_pairs, no_pair, six, one_transitive, clash, other_clash, neighbour, four_lines, claim_of}
+use Rattle.examples.specs.RunCases.{opened, vocabulary_events, sealed, line_events, with_lines, claim_events, claimed, closing_events, with_closings, astray_events, at_last, role_events, with_role, chain_events, with_chain}
+use Rattle.examples.proofs.Claims.{edge_missing, one_closed, edge_fits, chain_breaks, closed_chain_fits}
 
 -- an open docket with these concepts and these mates
 abbrev open_with : List Concept → List (Option ℕ) → Docket
@@ -104,88 +102,60 @@ lines_ran =
     )
 
 -- a sealed docket with the four lines and these claims
-abbrev with_claim : List Claim → Docket
-with_claim cs = docket Sealed six four_lines cs
+abbrev with_claims : List Claim → Docket
+with_claims cs = docket Sealed six four_lines cs
 
-pub claims_ran : Ran with_lines claim_events with_claims
+pub claims_ran : Ran with_lines claim_events claimed
+unfolding least
+claims_ran = (
+  with_claims (claim_of (0 ∷ 3 ∷ []) Unsettled ∷ []),
+  (refl, ((refl, omega arith, refl), refl, refl), refl),
+  (
+    with_claims (claim_of (0 ∷ 3 ∷ []) Unsettled ∷ claim_of (0 ∷ []) Unsettled ∷ []),
+    (refl, ((refl, omega arith, refl), refl, refl), refl),
+    (claimed, (refl, ((refl, omega arith, refl), refl, refl), refl), refl),
+  ),
+)
+
+pub closings_ran : Ran claimed closing_events with_closings
 unfolding least row
-claims_ran =
-    let first : Status → Claim = claim_of (0 ∷ 3 ∷ []) in
-    let second : Claim = claim_of (0 ∷ []) Unsettled in
-    let third : Status → Claim = claim_of (3 ∷ []) in
-    let all : Docket = with_claim (first Unsettled ∷ second ∷ third Unsettled ∷ []) in
-    let one_closed : Docket = with_claim (first Empty ∷ second ∷ third Unsettled ∷ []) in (
-      with_claim (first Unsettled ∷ []),
-      (refl, ((refl, omega arith, refl), refl, refl), refl),
-      (
-        with_claim (first Unsettled ∷ second ∷ []),
-        (refl, ((refl, omega arith, refl), refl, refl), refl),
-        (
-          all,
-          (refl, ((refl, omega arith, refl), refl, refl), refl),
-          (
-            one_closed,
-            (refl, ((omega arith, refl), refl, refl, refl), refl),
-            (
-              one_closed,
-              (refl, refl),
-              (
-                one_closed,
-                (inr (refl, without_edge), refl),
-                (
-                  with_claims,
-                  ((refl, with_edge), ((omega arith, refl), refl, refl, refl), refl),
-                  refl,
-                ),
-              ),
-            ),
-          ),
-        ),
-      ),
-    )
+closings_ran = (
+  claimed,
+  edge_missing,
+  (
+    claimed,
+    (refl, refl),
+    (
+      one_closed,
+      edge_fits,
+      (with_closings, (refl, ((omega arith, refl), refl, refl, refl), refl), refl),
+    ),
+  ),
+)
 
-pub astray_ran : Ran with_claims astray_events at_last
+pub astray_ran : Ran with_closings astray_events at_last
 unfolding least row
 astray_ran = (
   at_last,
   (refl, (Only 1 4, written (Only 1 4), ((refl, omega arith, refl, refl, refl, refl), refl, refl, refl), refl, refl), refl),
+  (at_last, (refl, refl), refl),
+)
+
+pub roles_ran : Ran opened role_events with_role
+unfolding least
+roles_ran = (
+  docket Open (vocabulary role_0_transitive [] no_pair) [] [],
+  (refl, ((((refl, omega arith, refl), kept_transitivity no_role_axiom role_0_transitive (Transitivity 0) (omega arith) refl 0 refl refl refl), refl, refl, refl), refl, refl), refl),
   (
-    at_last,
-    (refl, refl),
-    refl,
+    docket Open one_transitive [] [],
+    (refl, (Top, written Top, ((refl, omega arith, refl, refl, refl, refl), refl, refl, refl), refl, refl), refl),
+    (
+      docket Sealed one_transitive [] [],
+      (refl, (refl, refl, refl, refl), refl),
+      (with_role, (refl, ((refl, omega arith, refl), refl, refl), refl), refl),
+    ),
   ),
 )
 
--- the docket with a transitive role, and this claim
-abbrev with_role : Phase → List Claim → Docket
-with_role p cs = docket p transitive_vocabulary [] cs
-
-pub transitive_ran : Ran opened transitive_events with_transitive_role
-unfolding least row
-transitive_ran =
-    let role_alone : Docket = docket Open (vocabulary role_0_transitive [] no_pair) [] [] in
-    let claimed : Docket = with_role Sealed (claim_of (0 ∷ []) Unsettled ∷ []) in (
-      role_alone,
-      (refl, ((((refl, omega arith, refl), kept_transitivity no_role_axiom role_0_transitive (Transitivity 0) (omega arith) refl 0 refl refl refl), refl, refl, refl), refl, refl), refl),
-      (
-        with_role Open [],
-        (refl, (Top, written Top, ((refl, omega arith, refl, refl, refl, refl), refl, refl, refl), refl, refl), refl),
-        (
-          with_role Sealed [],
-          (refl, (refl, refl, refl, refl), refl),
-          (
-            claimed,
-            (refl, ((refl, omega arith, refl), refl, refl), refl),
-            (
-              claimed,
-              (inr (refl, chain_breaks), refl),
-              (
-                with_transitive_role,
-                ((refl, closed_chain_fits), ((omega arith, refl), refl, refl, refl), refl),
-                refl,
-              ),
-            ),
-          ),
-        ),
-      ),
-    )
+pub chains_ran : Ran with_role chain_events with_chain
+chains_ran = (with_role, chain_breaks, (with_chain, closed_chain_fits, refl))

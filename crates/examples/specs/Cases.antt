@@ -1,5 +1,5 @@
 -- Worked cases, and what each says.
-use Rattle.std.specs.Prelude.{◌≡◌, Bool, true, false, List, [], ◌∷◌, ℕ}
+use Rattle.std.specs.Prelude.{◌≡◌, ℕ, Bool, true, false, List, [], ◌∷◌, Result}
 use Rattle.refusals.specs.declared.Refusal.{Refusal}
 use Rattle.refusals.specs.Table.{returned}
 use Rattle.bits.specs.Bits.{has}
@@ -13,6 +13,7 @@ use Rattle.models.specs.declared.Model.{Model}
 use Rattle.models.specs.Models.{described}
 use Rattle.docket.specs.declared.Docket.{Docket}
 use Rattle.docket.specs.Dockets.{Fresh}
+use Rattle.docket.specs.Calls.{Call, Acts}
 use Rattle.docket.specs.Runs.{Reached}
 use Rattle.facts.specs.Events.{Event, Ran}
 
@@ -31,6 +32,8 @@ pub data Case : Type 0 where
   reaches : Docket → Case
   -- the first docket becomes the second as these calls are made, and so answered
   runs : Docket → List Event → Docket → Case
+  -- the call has this answer, and no other
+  answers : Docket → Call → Result ℕ Refusal → Case
   -- the refusal is returned as this number and this place
   returns : Refusal → (number place : ℕ) → Case
 
@@ -47,6 +50,7 @@ Holds (meets m axioms b) = Is (MeetsRoleAxioms (described m) axioms) b
 Holds (opens d) = Fresh d
 Holds (reaches d) = Reached d
 Holds (runs d xs e) = Ran d xs e
+Holds (answers d c a) = (b : Result ℕ Refusal) (e : Docket) → Acts c d b e → b ≡ a
 Holds (returns x number place) = returned x ≡ (number, place)
 
 abbrev pub AllHold : List Case → Type 0

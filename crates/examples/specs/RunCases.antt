@@ -2,7 +2,6 @@
 use Rattle.std.specs.Prelude.{ℕ, List, [], ◌∷◌, ◌++◌, Ok, Err, Result}
 use Rattle.refusals.specs.declared.Refusal.{Refusal}
 use Rattle.refusals.specs.declared.Refusal.TheVariants.{Absent, Inapplicable, Outside, RoleAxiom, Point}
-use Rattle.logic.specs.declared.concept.Concept.TheVariants.{Top}
 use Rattle.claims.specs.declared.Status.TheVariants.{Open as Unsettled, Empty, Inhabited}
 use Rattle.claims.specs.declared.Claim.{Claim}
 use Rattle.schemas.specs.House.{house}
@@ -10,8 +9,8 @@ use Rattle.docket.specs.declared.Docket.{Docket}
 use Rattle.docket.specs.declared.phase.Phase.TheVariants.{Open, Sealed}
 use Rattle.docket.specs.Calls.{Call, transitivity, concept, pair, seal, line, claim, close_empty, close_inhabited}
 use Rattle.facts.specs.Events.{Event}
-use Rattle.examples.specs.Cases.{Case, opens, reaches, runs, returns}
-use Rattle.examples.specs.SmallDocket.{no_role_axiom, role_0_transitive, vocabulary, docket, no_pair, six, seven, clash, other_clash, neighbour, cut_with, four_lines, claim_of, model, one_edge, chain, closed_chain, rows}
+use Rattle.examples.specs.Cases.{Case, opens, reaches, runs, answers, returns}
+use Rattle.examples.specs.SmallDocket.{no_role_axiom, vocabulary, docket, no_pair, six, seven, one_transitive, clash, other_clash, neighbour, cut_with, four_lines, claim_of, model, one_edge, chain, closed_chain, rows}
 
 abbrev pub event : Call → Result ℕ Refusal → Event
 event c a = record { call = c; answer = a }
@@ -49,24 +48,34 @@ line_events =
 abbrev pub with_lines : Docket
 with_lines = docket Sealed six four_lines []
 
--- claims, which are closed by line 3 and by a model; the label of line 3 is not within the second, and the third has no
--- model without the edge
+-- claims of three labels
 abbrev pub claim_events : List Event
-claim_events =
-    event (claim (0 ∷ 3 ∷ [])) (Ok 0)
-    ∷ event (claim (0 ∷ [])) (Ok 1)
-    ∷ event (claim (3 ∷ [])) (Ok 2)
-    ∷ event (close_empty 0 3) (Ok 0)
+claim_events = event (claim (0 ∷ 3 ∷ [])) (Ok 0) ∷ event (claim (0 ∷ [])) (Ok 1) ∷ event (claim (3 ∷ [])) (Ok 2) ∷ []
+
+abbrev pub claimed : Docket
+claimed = docket Sealed six four_lines (claim_of (0 ∷ 3 ∷ []) Unsettled ∷ claim_of (0 ∷ []) Unsettled ∷ claim_of (3 ∷ []) Unsettled ∷ [])
+
+-- two elements as a model for claim 2, without an edge and with one; the working rows say which elements lie in each concept
+abbrev pub without_edge : Call
+without_edge = close_inhabited 2 (model 2 []) (rows (0 ∷ 0 ∷ 0 ∷ 0 ∷ 0 ∷ 0 ∷ [])) (rows (0 ∷ 3 ∷ 3 ∷ 0 ∷ 0 ∷ 3 ∷ []))
+
+abbrev pub with_edge : Call
+with_edge = close_inhabited 2 (model 2 one_edge) (rows (0 ∷ 3 ∷ 3 ∷ 0 ∷ 0 ∷ 3 ∷ [])) (rows (0 ∷ 3 ∷ 3 ∷ 1 ∷ 0 ∷ 2 ∷ []))
+
+-- the point is not in concept 3 without the edge, and the label of line 3 does not lie within claim 1's
+abbrev pub closing_events : List Event
+closing_events =
+    event without_edge (Err (Point 3))
     ∷ event (close_empty 1 3) (Err (Outside 3))
-    ∷ event (close_inhabited 2 (model 2 []) (rows (0 ∷ 0 ∷ 0 ∷ 0 ∷ 0 ∷ 0 ∷ [])) (rows (0 ∷ 3 ∷ 3 ∷ 0 ∷ 0 ∷ 3 ∷ []))) (Err (Point 3))
-    ∷ event (close_inhabited 2 (model 2 one_edge) (rows (0 ∷ 3 ∷ 3 ∷ 0 ∷ 0 ∷ 3 ∷ [])) (rows (0 ∷ 3 ∷ 3 ∷ 1 ∷ 0 ∷ 2 ∷ []))) (Ok 0)
+    ∷ event with_edge (Ok 0)
+    ∷ event (close_empty 0 3) (Ok 0)
     ∷ []
 
 abbrev pub closed_claims : List Claim
 closed_claims = claim_of (0 ∷ 3 ∷ []) Empty ∷ claim_of (0 ∷ []) Unsettled ∷ claim_of (3 ∷ []) Inhabited ∷ []
 
-abbrev pub with_claims : Docket
-with_claims = docket Sealed six four_lines closed_claims
+abbrev pub with_closings : Docket
+with_closings = docket Sealed six four_lines closed_claims
 
 -- the last line again, with another concept in the second case
 abbrev pub astray_events : List Event
@@ -74,36 +83,49 @@ astray_events = event (concept 6 1 4) (Ok 6) ∷ event (line house (cut_with 6))
 
 -- all of it as one run
 abbrev pub all_events : List Event
-all_events = vocabulary_events ++ (line_events ++ (claim_events ++ astray_events))
+all_events = vocabulary_events ++ (line_events ++ (claim_events ++ (closing_events ++ astray_events)))
 
 abbrev pub at_last : Docket
 at_last = docket Sealed seven four_lines closed_claims
 
--- a transitive role: a chain is no model, with its shortcut it is
-abbrev pub transitive_events : List Event
-transitive_events =
-    event (transitivity 0) (Ok 0)
-    ∷ event (concept 0 0 0) (Ok 0)
-    ∷ event seal (Ok 0)
-    ∷ event (claim (0 ∷ [])) (Ok 0)
-    ∷ event (close_inhabited 0 (model 3 chain) (rows (0 ∷ [])) (rows (0 ∷ []))) (Err (RoleAxiom 0))
-    ∷ event (close_inhabited 0 (model 3 closed_chain) (rows (0 ∷ [])) (rows (7 ∷ []))) (Ok 0)
-    ∷ []
+-- three elements as a model, in a docket with a transitive role and one concept: a chain of two edges, without its shortcut
+-- and with it
+abbrev pub by_chain : Call
+by_chain = close_inhabited 0 (model 3 chain) (rows (0 ∷ [])) (rows (0 ∷ []))
 
-abbrev pub with_transitive_role : Docket
-with_transitive_role = docket Sealed (vocabulary role_0_transitive (Top ∷ []) no_pair) [] (claim_of (0 ∷ []) Inhabited ∷ [])
+abbrev pub by_closed_chain : Call
+by_closed_chain = close_inhabited 0 (model 3 closed_chain) (rows (0 ∷ [])) (rows (7 ∷ []))
+
+abbrev pub role_events : List Event
+role_events = event (transitivity 0) (Ok 0) ∷ event (concept 0 0 0) (Ok 0) ∷ event seal (Ok 0) ∷ event (claim (0 ∷ [])) (Ok 0) ∷ []
+
+abbrev pub with_role : Docket
+with_role = docket Sealed one_transitive [] (claim_of (0 ∷ []) Unsettled ∷ [])
+
+abbrev pub chain_events : List Event
+chain_events = event by_chain (Err (RoleAxiom 0)) ∷ event by_closed_chain (Ok 0) ∷ []
+
+abbrev pub with_chain : Docket
+with_chain = docket Sealed one_transitive [] (claim_of (0 ∷ []) Inhabited ∷ [])
 
 abbrev pub run_cases : List Case
 run_cases =
     opens opened
     ∷ runs opened vocabulary_events sealed
     ∷ runs sealed line_events with_lines
-    ∷ runs with_lines claim_events with_claims
-    ∷ runs with_claims astray_events at_last
+    ∷ runs with_lines claim_events claimed
+    ∷ runs claimed closing_events with_closings
+    ∷ runs with_closings astray_events at_last
     ∷ runs opened all_events at_last
     ∷ reaches at_last
-    -- another docket
-    ∷ runs opened transitive_events with_transitive_role
+    -- the docket with a transitive role
+    ∷ runs opened role_events with_role
+    ∷ runs with_role chain_events with_chain
+    -- what models are answered
+    ∷ answers claimed without_edge (Err (Point 3))
+    ∷ answers claimed with_edge (Ok 0)
+    ∷ answers with_role by_chain (Err (RoleAxiom 0))
+    ∷ answers with_role by_closed_chain (Ok 0)
     ∷ []
 
 -- the refusals that are met here

@@ -84,6 +84,10 @@ six = vocabulary no_role_axiom six_concepts two_pairs
 abbrev pub seven : Vocabulary
 seven = vocabulary no_role_axiom seven_concepts two_pairs
 
+-- one concept, and a transitive role
+abbrev pub one_transitive : Vocabulary
+one_transitive = vocabulary role_0_transitive (Top ∷ []) no_pair
+
 -- the drafts: a rule, the concepts p, q and s, the lines that are cited, and a label
 abbrev pub draft : (rule p q s m n : ℕ) → List ℕ → Draft
 draft rule p q s m n ms = record { rule = rule; on = record { p = p; q = q; s = s }; m = m; n = n; members = handed ms }

@@ -6,7 +6,7 @@ use Rattle.examples.specs.RunCases.{run_cases, refusal_cases}
 use Rattle.examples.specs.ModelCases.{model_cases}
 use Rattle.examples.proofs.Passing.{roles_hold, refusals_hold, models_hold}
 use Rattle.examples.proofs.Steps.{steps_hold}
-use Rattle.examples.proofs.Reaching.{runs_hold}
+use Rattle.examples.proofs.Runs.{runs_hold}
 use Rattle.examples.proofs.examples_hold.Goals as goal
 
 all_append : (cs ds : List Case) → AllHold cs → AllHold ds → AllHold (cs ++ ds)
