@@ -57,10 +57,10 @@ all_lie label rows n h c l i = implied (has label c) (contains rows c 0) (every_
 pub edge_missing : Acts without_edge claimed (Err (Point 3)) claimed
 unfolding row any_below
 edge_missing =
-    let judged : JudgedFor claimed 2 (model 2 []) blank_rows (Err (Point 3)) rows_without = λ kept stands.
-    point_missed (model 2 []) no_edge_formed [] six_concepts [] three blank_rows rows_without (judgeable six three blank_rows kept stands (omega arith))
+    let judged : JudgedFor claimed 2 (model 2 [] []) blank_rows (Err (Point 3)) rows_without = λ kept stands.
+    point_missed (model 2 [] []) no_edge_formed [] six_concepts [] three blank_rows rows_without (judgeable six three blank_rows kept stands (omega arith))
     (λ k l. absurd (omega arith))
-    (evaluated (model 2 []) no_edge_formed six_concepts rows_without blank_rows (omega arith) (omega arith) refl)
+    (evaluated (model 2 [] []) no_edge_formed six_concepts rows_without blank_rows (omega arith) (omega arith) refl)
     3 (λ k l. absurd (omega arith)) (omega arith, λ p. p refl, all_lie three rows_without 3 refl) in
     (inr (refl, judged), refl)
 
@@ -71,10 +71,10 @@ one_closed = docket Sealed six four_lines (claim_of (0 ∷ 3 ∷ []) Unsettled �
 pub edge_fits : Acts with_edge claimed (Ok 0) one_closed
 unfolding row any_below
 edge_fits =
-    let judged : JudgedFor claimed 2 (model 2 one_edge) rows_without (Ok tt) rows_with = λ kept stands.
-    satisfied (model 2 one_edge) one_edge_formed [] six_concepts [] three rows_without rows_with (judgeable six three rows_without kept stands (omega arith))
+    let judged : JudgedFor claimed 2 (model 2 [] one_edge) rows_without (Ok tt) rows_with = λ kept stands.
+    satisfied (model 2 [] one_edge) one_edge_formed [] six_concepts [] three rows_without rows_with (judgeable six three rows_without kept stands (omega arith))
     (λ k l. absurd (omega arith))
-    (evaluated (model 2 one_edge) one_edge_formed six_concepts rows_with rows_without (omega arith) (omega arith) refl)
+    (evaluated (model 2 [] one_edge) one_edge_formed six_concepts rows_with rows_without (omega arith) (omega arith) refl)
     (λ k l. absurd (omega arith)) (all_lie three rows_with 6 refl) in
     ((refl, judged), ((omega arith, refl), refl, refl, refl), refl)
 
@@ -85,17 +85,17 @@ top = row (0 ∷ [])
 
 pub chain_breaks : Acts by_chain with_role (Err (RoleAxiom 0)) with_role
 chain_breaks =
-    let judged : JudgedFor with_role 0 (model 3 chain) (rows (0 ∷ [])) (Err (RoleAxiom 0)) (rows (0 ∷ [])) = λ kept stands.
+    let judged : JudgedFor with_role 0 (model 3 [] chain) (rows (0 ∷ [])) (Err (RoleAxiom 0)) (rows (0 ∷ [])) = λ kept stands.
     record { formed = chain_formed; first_broken = (omega arith, chain_lacks, λ k l. absurd (omega arith)); rows_stay = refl } in
     (inr (refl, judged), refl)
 
 pub closed_chain_fits : Acts by_closed_chain with_role (Ok 0) with_chain
 unfolding row any_below
 closed_chain_fits =
-    let judged : JudgedFor with_role 0 (model 3 closed_chain) (rows (0 ∷ [])) (Ok tt) (rows (7 ∷ [])) = λ kept stands.
-    satisfied (model 3 closed_chain) closed_chain_formed (Transitivity 0 ∷ []) (Top ∷ []) [] top (rows (0 ∷ [])) (rows (7 ∷ []))
+    let judged : JudgedFor with_role 0 (model 3 [] closed_chain) (rows (0 ∷ [])) (Ok tt) (rows (7 ∷ [])) = λ kept stands.
+    satisfied (model 3 [] closed_chain) closed_chain_formed (Transitivity 0 ∷ []) (Top ∷ []) [] top (rows (0 ∷ [])) (rows (7 ∷ []))
     (judgeable one_transitive top (rows (0 ∷ [])) kept stands (omega arith))
     (below_more _ 0 (below_none _) closed_chain_has)
-    (evaluated (model 3 closed_chain) closed_chain_formed (Top ∷ []) (rows (7 ∷ [])) (rows (0 ∷ [])) (omega arith) (omega arith) refl)
+    (evaluated (model 3 [] closed_chain) closed_chain_formed (Top ∷ []) (rows (7 ∷ [])) (rows (0 ∷ [])) (omega arith) (omega arith) refl)
     (λ k l. absurd (omega arith)) (all_lie top (rows (7 ∷ [])) 1 refl) in
     ((refl, judged), ((omega arith, refl), refl, refl, refl), refl)

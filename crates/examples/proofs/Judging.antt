@@ -1,5 +1,5 @@
 -- Small models, well formed and evaluated, by tests.
-use Rattle.std.proofs.Common.{◌≡◌, ℕ, zero, suc, ◌+◌, ◌*◌, ◌%◌, ◌<◌, ◌≤◌, Bool, true, false, not, ◌||◌, T, List, length, get_or, sym, refl, ◌∙◌, subst, arith}
+use Rattle.std.proofs.Common.{◌≡◌, ℕ, zero, suc, ◌+◌, ◌*◌, ◌/◌, ◌%◌, ◌<◌, ◌≤◌, Bool, true, false, not, ◌||◌, T, ◌↔◌, List, length, get_or, sym, refl, ◌∙◌, subst, arith}
 use Rattle.std.proofs.lemmas.Bool.{agree_below, agree_below_at}
 use Rattle.std.proofs.lemmas.Float.{T_from_true}
 use Rattle.std.proofs.lemmas.List.{get_or_past}
@@ -8,20 +8,31 @@ use Rattle.rows.specs.Rows.{contains}
 use Rattle.logic.specs.declared.concept.Concept.{Concept}
 use Rattle.logic.specs.declared.concept.Concept.TheVariants.{Top}
 use Rattle.logic.specs.Concepts.{parts}
+use Rattle.logic.specs.Meaning.{LiesIn}
 use Rattle.models.specs.declared.Model.{Model}
-use Rattle.models.specs.Items.{edges_in, GoodEdge}
+use Rattle.models.specs.Items.{marks_in, edges_in, GoodMark, GoodEdge}
 use Rattle.models.specs.Models.{WellFormed, described}
 use Rattle.models.specs.Evaluation.{computed, RowsHold, Evaluated}
 use Rattle.models.proofs.MeaningFacts.{row_more}
+use Rattle.models.proofs.PairFacts.{element}
 use Rattle.examples.specs.SmallDocket.{bytes, model}
 
--- a model of few elements is well formed if its edges are good
-pub formed : (n : ℕ) (es : List ℕ) → 0 < n → n ≤ 256 → length (bytes es) % 6 ≡ 0 → edges_in (bytes es) ≤ 4096
-    → ((i : ℕ) → i < edges_in (bytes es) → GoodEdge (bytes es) n i) → WellFormed (model n es)
-formed n es some few whole short good = record {
-  sized = record { inhabited = some; few_elements = few; pointed = some; few_marks = omega arith; whole_marks = refl; whole_edges = whole; few_edges = short };
-  good_marks = λ k l. absurd (omega arith);
-  good_edges = good;
+-- a model is well formed if its sizes are right, and its marks and edges are good
+pub formed : (n : ℕ) (ms es : List ℕ) → (0 < n) × (n ≤ 256) → (length ms / 2 ≤ 4096) × (length (bytes ms) ≡ 4 * (length ms / 2))
+    → (length (bytes es) % 6 ≡ 0) × (edges_in (bytes es) ≤ 4096) → ((i : ℕ) → i < marks_in (bytes ms) → GoodMark (bytes ms) n i)
+    → ((i : ℕ) → i < edges_in (bytes es) → GoodEdge (bytes es) n i) → WellFormed (model n ms es)
+formed n ms es size marks edges good_marks good_edges = record {
+  sized = record {
+    inhabited = size.0;
+    few_elements = size.1;
+    pointed = size.0;
+    few_marks = marks.0;
+    whole_marks = marks.1;
+    whole_edges = edges.0;
+    few_edges = edges.1;
+  };
+  good_marks = good_marks;
+  good_edges = good_edges;
 }
 
 module _ (m : Model) (is_formed : WellFormed m) (cs : List Concept) (rows : List ℕ) where
@@ -42,6 +53,14 @@ module _ (m : Model) (is_formed : WellFormed m) (cs : List Concept) (rows : List
     rows_hold = hold h o (length cs) (omega arith);
     rest_stays = λ i l. get_or_past rows i 0 (omega arith) ∙ sym (get_or_past old i 0 (omega arith));
   }
+
+  -- and so the rows say which elements lie in the concepts
+  pub lies_as_evaluated : agree_below is_evaluated (λ c. true) (length cs) ≡ true → Ordered parts cs → (c e : ℕ) → c < length cs → e < m.size
+      → T (contains rows c e) ↔ LiesIn (described m) cs c e
+  lies_as_evaluated h o c e lc le =
+      let few = is_formed.sized.few_elements in
+      let r = hold h o (length cs) (omega arith) c e lc (omega arith) in
+      (λ t. (r.0 t).1, λ l. r.1 (element m e le, l))
 
 -- whether every number below n passes f
 abbrev pub every : ℕ → (ℕ → Bool) → Bool

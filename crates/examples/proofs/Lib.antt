@@ -10,4 +10,5 @@ mod Opening
 mod Running
 mod Reaching
 mod Steps
+mod Lying
 mod Runs

@@ -13,15 +13,15 @@ use Rattle.closure.proofs.Decided.{below_decided}
 use Rattle.models.specs.Items.{any_below}
 use Rattle.models.specs.Models.{described}
 use Rattle.models.proofs.Tests.{and_out}
-use Rattle.examples.specs.Cases.{Case, below, transitive, applies, meets, opens, reaches, runs, answers, returns, Is, Holds, AllHold}
+use Rattle.examples.specs.Cases.{Case, below, transitive, applies, meets, lies, opens, reaches, runs, answers, returns, Is, Holds, AllHold}
 use Rattle.examples.specs.RoleCases.{role_cases}
 use Rattle.examples.specs.RunCases.{refusal_cases}
-use Rattle.examples.specs.ModelCases.{model_cases}
+use Rattle.examples.specs.ModelCases.{meeting_cases}
 use Rattle.examples.proofs.Tests.{is_transitive, transitive_decided}
 use Rattle.examples.proofs.Meeting.{is_met, met_decided}
 
 -- whether a test came out as the table says
-abbrev agrees : Bool → Bool → Bool
+abbrev pub agrees : Bool → Bool → Bool
 agrees true said = said
 agrees false said = not said
 
@@ -32,6 +32,7 @@ passes (meets m axioms said) = agrees (is_met (described m) axioms) said
 passes (returns x number place) = eqb (returned x).0 number && eqb (returned x).1 place
 -- the others are not tested
 passes (applies v ms rule p q s said) = false
+passes (lies m cs c e said) = false
 passes (opens d) = false
 passes (reaches d) = false
 passes (runs d xs e) = false
@@ -42,7 +43,7 @@ all_pass [] = true
 all_pass (c ∷ cs) = passes c && all_pass cs
 
 -- a test that decides P agrees with what is said of P only if that is right
-agreed : (P : Type 0) (test said : Bool) → T test ↔ P → T (agrees test said) → Is P said
+pub agreed : (P : Type 0) (test said : Bool) → T test ↔ P → T (agrees test said) → Is P said
 agreed P true true decides h = decides.0 tt
 agreed P true false decides h = absurd h
 agreed P false true decides h = absurd h
@@ -59,6 +60,7 @@ passed (returns x number place) h =
     let p = and_out (eqb (returned x).0 number) (eqb (returned x).1 place) h in
     same_pair (returned x) (eqb→eq (returned x).0 number p.0) (eqb→eq (returned x).1 place p.1)
 passed (applies v ms rule p q s said) h = absurd h
+passed (lies m cs c e said) h = absurd h
 passed (opens d) h = absurd h
 passed (reaches d) h = absurd h
 passed (runs d xs e) h = absurd h
@@ -74,6 +76,6 @@ roles_hold = all_hold role_cases tt
 pub refusals_hold : AllHold refusal_cases
 refusals_hold = all_hold refusal_cases tt
 
-pub models_hold : AllHold model_cases
+pub meetings_hold : AllHold meeting_cases
 unfolding any_below
-models_hold = all_hold model_cases tt
+meetings_hold = all_hold meeting_cases tt

@@ -1,9 +1,12 @@
 -- The small dockets are reached.
 use Rattle.std.proofs.Common.{List, [], ◌∷◌, ◌++◌, sym, subst}
+use Rattle.vocabulary.specs.Keeping.{Kept}
 use Rattle.schemas.proofs.HouseLaws.{house_lawful}
 use Rattle.docket.specs.declared.Docket.{Docket}
 use Rattle.docket.specs.Runs.{Lent, Reached, began, called}
+use Rattle.docket.proofs.Reaching.{reached_kept}
 use Rattle.facts.specs.Events.{Event, Ran, Each}
+use Rattle.examples.specs.SmallDocket.{six, seven}
 use Rattle.examples.specs.RunCases.{opened, vocabulary_events, sealed, line_events, with_lines, claim_events, claimed, closing_events, with_closings, astray_events, all_events, at_last, role_events, with_role}
 use Rattle.examples.proofs.Opening.{opened_fresh}
 use Rattle.examples.proofs.Running.{vocabulary_ran, lines_ran, claims_ran, closings_ran, astray_ran, roles_ran}
@@ -30,6 +33,13 @@ last_reached =
 -- and the one with a transitive role
 pub role_reached : Reached with_role
 role_reached = reached_run role_events opened with_role (began opened_fresh) (tt, (tt, (tt, (tt, tt)))) roles_ran
+
+-- what their vocabularies keep
+pub six_kept : Kept six
+six_kept = reached_kept sealed sealed_reached
+
+pub seven_kept : Kept seven
+seven_kept = reached_kept at_last last_reached
 
 -- one run after another
 ran_append : (xs ys : List Event) (d m e : Docket) → Ran d xs m → Ran m ys e → Ran d (xs ++ ys) e

@@ -8,7 +8,7 @@ use Rattle.labels.specs.Labels.{row, absent_at}
 use Rattle.docket.proofs.Reaching.{reached_kept}
 use Rattle.facts.proofs.Members.{in_row, none_absent}
 use Rattle.examples.specs.Cases.{AllHold}
-use Rattle.examples.specs.RunCases.{claimed, without_edge, with_edge, with_role, by_chain, by_closed_chain, with_chain, run_cases}
+use Rattle.examples.specs.RunCases.{claimed, without_edge, with_edge, with_role, by_chain, by_closed_chain, with_chain, run_cases, answer_cases}
 use Rattle.examples.proofs.Claims.{edge_missing, one_closed, edge_fits, chain_breaks, closed_chain_fits}
 use Rattle.examples.proofs.OneAnswer.{LabelsStand, one_answer}
 use Rattle.examples.proofs.Opening.{opened_fresh}
@@ -27,44 +27,20 @@ unfolding least
 role_stand = below_more _ 0 (below_none _) (row_stands 1 (0 ∷ []) refl)
 
 pub runs_hold : AllHold run_cases
-runs_hold =
-    let one_claimed = one_answer claimed (reached_kept claimed claimed_reached) claimed_stand in
-    let one_role = one_answer with_role (reached_kept with_role role_reached) role_stand in (
-      opened_fresh,
+runs_hold = (opened_fresh, (vocabulary_ran, (lines_ran, (claims_ran, (closings_ran, (astray_ran, (all_ran, (last_reached, (roles_ran, (chains_ran, tt))))))))))
+
+pub answers_hold : AllHold answer_cases
+answers_hold =
+    let at_claimed = one_answer claimed (reached_kept claimed claimed_reached) claimed_stand in
+    let at_role = one_answer with_role (reached_kept with_role role_reached) role_stand in (
+      λ b e h. at_claimed without_edge b (Err (Point 3)) e claimed h edge_missing,
       (
-        vocabulary_ran,
+        λ b e h. at_claimed with_edge b (Ok 0) e one_closed h edge_fits,
         (
-          lines_ran,
+          λ b e h. at_role by_chain b (Err (RoleAxiom 0)) e with_role h chain_breaks,
           (
-            claims_ran,
-            (
-              closings_ran,
-              (
-                astray_ran,
-                (
-                  all_ran,
-                  (
-                    last_reached,
-                    (
-                      roles_ran,
-                      (
-                        chains_ran,
-                        (
-                          λ b e h. one_claimed without_edge b (Err (Point 3)) e claimed h edge_missing,
-                          (
-                            λ b e h. one_claimed with_edge b (Ok 0) e one_closed h edge_fits,
-                            (
-                              λ b e h. one_role by_chain b (Err (RoleAxiom 0)) e with_role h chain_breaks,
-                              (λ b e h. one_role by_closed_chain b (Ok 0) e with_chain h closed_chain_fits, tt),
-                            ),
-                          ),
-                        ),
-                      ),
-                    ),
-                  ),
-                ),
-              ),
-            ),
+            λ b e h. at_role by_closed_chain b (Ok 0) e with_chain h closed_chain_fits,
+            tt,
           ),
         ),
       ),

@@ -8,18 +8,10 @@ use Rattle.vocabulary.specs.Keeping.{Kept}
 use Rattle.schemas.specs.Table.{Applies}
 use Rattle.schemas.specs.House.{house}
 use Rattle.schemas.proofs.HouseLaws.{house_is_the_table}
-use Rattle.docket.proofs.Reaching.{reached_kept}
 use Rattle.examples.specs.Cases.{Is, AllHold}
 use Rattle.examples.specs.SmallDocket.{six, seven}
-use Rattle.examples.specs.RunCases.{sealed, at_last}
 use Rattle.examples.specs.StepCases.{step_cases}
-use Rattle.examples.proofs.Reaching.{sealed_reached, last_reached}
-
-six_kept : Kept six
-six_kept = reached_kept sealed sealed_reached
-
-seven_kept : Kept seven
-seven_kept = reached_kept at_last last_reached
+use Rattle.examples.proofs.Reaching.{six_kept, seven_kept}
 
 -- what the test of the house says, the table says
 decided : (v : Vocabulary) → Kept v → (ms : List ℕ) (rule p q s : ℕ) (said : Bool) → house.applies rule v (record { p = p; q = q; s = s }) (row ms) ≡ said

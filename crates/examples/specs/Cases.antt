@@ -4,9 +4,11 @@ use Rattle.refusals.specs.declared.Refusal.{Refusal}
 use Rattle.refusals.specs.Table.{returned}
 use Rattle.bits.specs.Bits.{has}
 use Rattle.labels.specs.Labels.{row}
+use Rattle.logic.specs.declared.concept.Concept.{Concept}
 use Rattle.logic.specs.declared.role.RoleAxiom.{RoleAxiom}
 use Rattle.logic.specs.Roles.{Below, Transitive}
 use Rattle.logic.specs.Interpretations.{MeetsRoleAxioms}
+use Rattle.logic.specs.Meaning.{LiesIn}
 use Rattle.vocabulary.specs.declared.Vocabulary.{Vocabulary}
 use Rattle.schemas.specs.Table.{Applies}
 use Rattle.models.specs.declared.Model.{Model}
@@ -26,6 +28,8 @@ pub data Case : Type 0 where
   applies : Vocabulary → List ℕ → (rule p q s : ℕ) → Bool → Case
   -- the model meets these role axioms, or it doesn't
   meets : Model → List RoleAxiom → Bool → Case
+  -- in the model this element lies in concept c of the list, or it doesn't
+  lies : Model → List Concept → (c e : ℕ) → Bool → Case
   -- the docket was just opened
   opens : Docket → Case
   -- the docket began new, and only calls have acted on it since
@@ -47,6 +51,7 @@ Holds (below axioms r s b) = Is (Below axioms r s) b
 Holds (transitive axioms r b) = Is (Transitive axioms r) b
 Holds (applies v ms rule p q s b) = Is (Applies v (has (row ms)) rule p q s) b
 Holds (meets m axioms b) = Is (MeetsRoleAxioms (described m) axioms) b
+Holds (lies m cs c e b) = Is (LiesIn (described m) cs c e) b
 Holds (opens d) = Fresh d
 Holds (reaches d) = Reached d
 Holds (runs d xs e) = Ran d xs e

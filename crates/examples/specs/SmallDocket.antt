@@ -1,4 +1,4 @@
--- A small docket: what is filed with it, and the states that it goes through.
+-- Small dockets, and what is filed with them.
 use Rattle.std.specs.Prelude.{ℕ, ◌-◌, ◌/◌, ◌%◌, List, [], ◌∷◌, ◌++◌, length, replicate, map, Some, None, Option}
 use Rattle.std.specs.Borrow.{Bor, MutBor}
 use Rattle.std.specs.List.{range_with_len}
@@ -64,10 +64,11 @@ vocabulary roles cs ms = record {
 abbrev pub docket : Phase → Vocabulary → List Line → List Claim → Docket
 docket phase v ls cs = record { phase = phase; vocabulary = v; book = register 5 blank ls; claims = record { list = cs } }
 
--- the concepts
+-- A, "not A", "only S not A" and "some R" of that, "some S A" and "only R" of that, where role R is 0 and role S its inverse
 abbrev pub six_concepts : List Concept
 six_concepts = Name 0 ∷ NotName 0 ∷ Only 1 1 ∷ Exists 0 2 ∷ Exists 1 0 ∷ Only 0 4 ∷ []
 
+-- and "only S" of "some S A"
 abbrev pub seven_concepts : List Concept
 seven_concepts = six_concepts ++ Only 1 4 ∷ []
 
@@ -92,18 +93,18 @@ one_transitive = vocabulary role_0_transitive (Top ∷ []) no_pair
 abbrev pub draft : (rule p q s m n : ℕ) → List ℕ → Draft
 draft rule p q s m n ms = record { rule = rule; on = record { p = p; q = q; s = s }; m = m; n = n; members = handed ms }
 
--- two clashes
+-- the mates 0 and 1 clash, and the mates 2 and 4
 abbrev pub clash : Draft
 clash = draft 2 0 1 0 0 0 (0 ∷ 1 ∷ [])
 
 abbrev pub other_clash : Draft
 other_clash = draft 2 2 4 0 0 0 (2 ∷ 4 ∷ [])
 
--- the neighbour that concept 3 asks for clashes
+-- concept 3 asks for a neighbour in 2, to which concept 5 passes 4
 abbrev pub neighbour : Draft
 neighbour = draft 10 3 0 0 1 0 (0 ∷ 3 ∷ 5 ∷ [])
 
--- a cut by the mates 1 and 0, with concept s in the second case
+-- a cut by the mates 1 and 0: 1 in the first case, and in the second 0 and s
 abbrev pub cut_with : ℕ → Draft
 cut_with s = draft 8 1 0 s 0 2 (0 ∷ 3 ∷ [])
 
@@ -114,14 +115,19 @@ four_lines = line_of house clash ∷ line_of house other_clash ∷ line_of house
 abbrev pub claim_of : List ℕ → Status → Claim
 claim_of ms s = record { label = row ms; status = s }
 
--- a model with this many elements, the point 0, no marks and these edges, each a role name and the ends
-abbrev pub model : ℕ → List ℕ → Model
-model n es = record { size = n; point = 0; mark_count = 0; marks = handed []; edges = handed es }
+-- a model with this many elements, the point 0, these marks, each an element and a name, and these edges, each a role name
+-- and its ends
+abbrev pub model : ℕ → (marks edges : List ℕ) → Model
+model n ms es = record { size = n; point = 0; mark_count = length ms / 2; marks = handed ms; edges = handed es }
+
+-- element 0 has the name of A
+abbrev pub one_mark : List ℕ
+one_mark = 0 ∷ 0 ∷ []
 
 abbrev pub one_edge : List ℕ
 one_edge = 0 ∷ 0 ∷ 1 ∷ []
 
--- a chain of two, and the same with its shortcut
+-- a chain of two edges, and the same with its shortcut
 abbrev pub chain : List ℕ
 chain = 0 ∷ 0 ∷ 1 ∷ 0 ∷ 1 ∷ 2 ∷ []
 
