@@ -19,7 +19,7 @@ use Rattle.docket.specs.declared.Docket.{Docket}
 use Rattle.docket.specs.declared.phase.Phase.TheVariants.{Sealed}
 use Rattle.docket.specs.Calls.{JudgedFor, Acts}
 use Rattle.examples.specs.RunCases.{claimed, without_edge, with_edge, with_role, by_chain, by_closed_chain, with_chain}
-use Rattle.examples.specs.SmallDocket.{docket, six, one_transitive, six_concepts, four_lines, claim_of, model, one_edge, chain, closed_chain, rows}
+use Rattle.examples.specs.SmallDocket.{docket, six, one_transitive, six_concepts, four_lines, three_claims, model, one_edge, chain, closed_chain, rows, rows_at_first, rows_without_edge, rows_with_edge}
 use Rattle.examples.proofs.Judging.{evaluated, every, every_at, implied}
 use Rattle.examples.proofs.Models.{no_edge_formed, one_edge_formed, chain_formed, closed_chain_formed, chain_lacks, closed_chain_has}
 
@@ -34,18 +34,8 @@ judgeable v label old kept stands room = record {
   room = room;
 }
 
--- the label with the member 3, and the working rows before, between and after
 abbrev three : List ℕ
 three = row (3 ∷ [])
-
-abbrev blank_rows : List ℕ
-blank_rows = rows (0 ∷ 0 ∷ 0 ∷ 0 ∷ 0 ∷ 0 ∷ [])
-
-abbrev rows_without : List ℕ
-rows_without = rows (0 ∷ 3 ∷ 3 ∷ 0 ∷ 0 ∷ 3 ∷ [])
-
-abbrev rows_with : List ℕ
-rows_with = rows (0 ∷ 3 ∷ 3 ∷ 1 ∷ 0 ∷ 2 ∷ [])
 
 -- the first n concepts have the point in their rows, if they are in the label
 abbrev lie : List ℕ → List ℕ → ℕ → Bool
@@ -57,25 +47,25 @@ all_lie label rows n h c l i = implied (has label c) (contains rows c 0) (every_
 pub edge_missing : Acts without_edge claimed (Err (Point 3)) claimed
 unfolding row any_below
 edge_missing =
-    let judged : JudgedFor claimed 2 (model 2 [] []) blank_rows (Err (Point 3)) rows_without = λ kept stands.
-    point_missed (model 2 [] []) no_edge_formed [] six_concepts [] three blank_rows rows_without (judgeable six three blank_rows kept stands (omega arith))
+    let judged : JudgedFor claimed 2 (model 2 [] []) rows_at_first (Err (Point 3)) rows_without_edge = λ kept stands.
+    point_missed (model 2 [] []) no_edge_formed [] six_concepts [] three rows_at_first rows_without_edge (judgeable six three rows_at_first kept stands (omega arith))
     (λ k l. absurd (omega arith))
-    (evaluated (model 2 [] []) no_edge_formed six_concepts rows_without blank_rows (omega arith) (omega arith) refl)
-    3 (λ k l. absurd (omega arith)) (omega arith, λ p. p refl, all_lie three rows_without 3 refl) in
+    (evaluated (model 2 [] []) no_edge_formed six_concepts rows_without_edge rows_at_first (omega arith) (omega arith) refl)
+    3 (λ k l. absurd (omega arith)) (omega arith, λ p. p refl, all_lie three rows_without_edge 3 refl) in
     (inr (refl, judged), refl)
 
 -- claim 2 is closed
 abbrev pub one_closed : Docket
-one_closed = docket Sealed six four_lines (claim_of (0 ∷ 3 ∷ []) Unsettled ∷ claim_of (0 ∷ []) Unsettled ∷ claim_of (3 ∷ []) Inhabited ∷ [])
+one_closed = docket Sealed six four_lines (three_claims Unsettled Unsettled Inhabited)
 
 pub edge_fits : Acts with_edge claimed (Ok 0) one_closed
 unfolding row any_below
 edge_fits =
-    let judged : JudgedFor claimed 2 (model 2 [] one_edge) rows_without (Ok tt) rows_with = λ kept stands.
-    satisfied (model 2 [] one_edge) one_edge_formed [] six_concepts [] three rows_without rows_with (judgeable six three rows_without kept stands (omega arith))
+    let judged : JudgedFor claimed 2 (model 2 [] one_edge) rows_without_edge (Ok tt) rows_with_edge = λ kept stands.
+    satisfied (model 2 [] one_edge) one_edge_formed [] six_concepts [] three rows_without_edge rows_with_edge (judgeable six three rows_without_edge kept stands (omega arith))
     (λ k l. absurd (omega arith))
-    (evaluated (model 2 [] one_edge) one_edge_formed six_concepts rows_with rows_without (omega arith) (omega arith) refl)
-    (λ k l. absurd (omega arith)) (all_lie three rows_with 6 refl) in
+    (evaluated (model 2 [] one_edge) one_edge_formed six_concepts rows_with_edge rows_without_edge (omega arith) (omega arith) refl)
+    (λ k l. absurd (omega arith)) (all_lie three rows_with_edge 6 refl) in
     ((refl, judged), ((omega arith, refl), refl, refl, refl), refl)
 
 -- the same over one concept, with a transitive role

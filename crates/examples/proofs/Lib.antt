@@ -10,5 +10,6 @@ mod Opening
 mod Running
 mod Reaching
 mod Steps
+mod Drafting
 mod Lying
 mod Runs

@@ -13,7 +13,7 @@ use Rattle.closure.proofs.Decided.{below_decided}
 use Rattle.models.specs.Items.{any_below}
 use Rattle.models.specs.Models.{described}
 use Rattle.models.proofs.Tests.{and_out}
-use Rattle.examples.specs.Cases.{Case, below, transitive, applies, meets, lies, opens, reaches, runs, answers, returns, Is, Holds, AllHold}
+use Rattle.examples.specs.Cases.{Case, below, transitive, applies, admits, meets, lies, opens, reaches, runs, answers, returns, Is, Holds, AllHold}
 use Rattle.examples.specs.RoleCases.{role_cases}
 use Rattle.examples.specs.RunCases.{refusal_cases}
 use Rattle.examples.specs.ModelCases.{meeting_cases}
@@ -32,6 +32,7 @@ passes (meets m axioms said) = agrees (is_met (described m) axioms) said
 passes (returns x number place) = eqb (returned x).0 number && eqb (returned x).1 place
 -- the others are not tested
 passes (applies v ms rule p q s said) = false
+passes (admits d f said) = false
 passes (lies m cs c e said) = false
 passes (opens d) = false
 passes (reaches d) = false
@@ -60,6 +61,7 @@ passed (returns x number place) h =
     let p = and_out (eqb (returned x).0 number) (eqb (returned x).1 place) h in
     same_pair (returned x) (eqb→eq (returned x).0 number p.0) (eqb→eq (returned x).1 place p.1)
 passed (applies v ms rule p q s said) h = absurd h
+passed (admits d f said) h = absurd h
 passed (lies m cs c e said) h = absurd h
 passed (opens d) h = absurd h
 passed (reaches d) h = absurd h

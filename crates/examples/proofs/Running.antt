@@ -8,17 +8,13 @@ use Rattle.labels.specs.Least.{least}
 use Rattle.labels.specs.Labels.{row}
 use Rattle.vocabulary.proofs.RoleTables.{kept_transitivity}
 use Rattle.claims.specs.declared.Status.TheVariants.{Open as Unsettled}
-use Rattle.claims.specs.declared.Claim.{Claim}
 use Rattle.schemas.specs.Tests.{some_below}
-use Rattle.schemas.specs.House.{house}
-use Rattle.book.specs.declared.line.Line.{Line}
-use Rattle.book.specs.Drafts.{line_of}
 use Rattle.docket.specs.declared.Docket.{Docket}
 use Rattle.docket.specs.declared.phase.Phase.TheVariants.{Open, Sealed}
 use Rattle.docket.specs.Fields.{Written}
 use Rattle.facts.specs.Events.{Ran}
-use Rattle.examples.specs.SmallDocket.{no_role_axiom, role_0_transitive, vocabulary, docket, six_concepts, two_pairs, no_pair, six, one_transitive, clash, other_clash, neighbour, four_lines, claim_of}
-use Rattle.examples.specs.RunCases.{opened, vocabulary_events, sealed, line_events, with_lines, claim_events, claimed, closing_events, with_closings, astray_events, at_last, role_events, with_role, chain_events, with_chain}
+use Rattle.examples.specs.SmallDocket.{no_role_axiom, role_0_transitive, vocabulary, docket, six_concepts, two_pairs, no_pair, six, one_transitive, four_lines, claim_of}
+use Rattle.examples.specs.RunCases.{opened, vocabulary_events, with_first, sealed, line_events, with_lines, claim_events, claimed, closing_events, with_closings, astray_events, at_last, role_events, with_role, chain_events, with_chain}
 use Rattle.examples.proofs.Claims.{edge_missing, one_closed, edge_fits, chain_breaks, closed_chain_fits}
 
 -- an open docket with these concepts and these mates
@@ -70,48 +66,29 @@ vocabulary_ran = (
   ),
 )
 
--- a sealed docket with these lines
-abbrev with : List Line → Docket
-with ls = docket Sealed six ls []
-
 pub lines_ran : Ran sealed line_events with_lines
 unfolding least row some_below
-lines_ran =
-    let one : Docket = with (line_of house clash ∷ []) in
-    let two : Docket = with (line_of house clash ∷ line_of house other_clash ∷ []) in
-    let three : Docket = with (line_of house clash ∷ line_of house other_clash ∷ line_of house neighbour ∷ []) in (
-      one,
+lines_ran = (
+  with_first 1,
+  (refl, ((refl, omega arith, refl, refl, refl, refl), refl, refl), refl),
+  (
+    with_first 1,
+    (refl, refl),
+    (
+      with_first 2,
       (refl, ((refl, omega arith, refl, refl, refl, refl), refl, refl), refl),
-      (
-        one,
-        (refl, refl),
-        (
-          two,
-          (refl, ((refl, omega arith, refl, refl, refl, refl), refl, refl), refl),
-          (
-            three,
-            (refl, ((refl, omega arith, refl, refl, refl, refl), refl, refl), refl),
-            (
-              with_lines,
-              (refl, ((refl, omega arith, refl, refl, refl, refl), refl, refl), refl),
-              refl,
-            ),
-          ),
-        ),
-      ),
-    )
-
--- a sealed docket with the four lines and these claims
-abbrev with_claims : List Claim → Docket
-with_claims cs = docket Sealed six four_lines cs
+      (with_first 3, (refl, ((refl, omega arith, refl, refl, refl, refl), refl, refl), refl), (with_lines, (refl, ((refl, omega arith, refl, refl, refl, refl), refl, refl), refl), refl)),
+    ),
+  ),
+)
 
 pub claims_ran : Ran with_lines claim_events claimed
 unfolding least
 claims_ran = (
-  with_claims (claim_of (0 ∷ 3 ∷ []) Unsettled ∷ []),
+  docket Sealed six four_lines (claim_of (0 ∷ 3 ∷ []) Unsettled ∷ []),
   (refl, ((refl, omega arith, refl), refl, refl), refl),
   (
-    with_claims (claim_of (0 ∷ 3 ∷ []) Unsettled ∷ claim_of (0 ∷ []) Unsettled ∷ []),
+    docket Sealed six four_lines (claim_of (0 ∷ 3 ∷ []) Unsettled ∷ claim_of (0 ∷ []) Unsettled ∷ []),
     (refl, ((refl, omega arith, refl), refl, refl), refl),
     (claimed, (refl, ((refl, omega arith, refl), refl, refl), refl), refl),
   ),

@@ -33,13 +33,13 @@ pub answers_hold : AllHold answer_cases
 answers_hold =
     let at_claimed = one_answer claimed (reached_kept claimed claimed_reached) claimed_stand in
     let at_role = one_answer with_role (reached_kept with_role role_reached) role_stand in (
-      λ b e h. at_claimed without_edge b (Err (Point 3)) e claimed h edge_missing,
+      ((claimed, edge_missing), λ b e h. at_claimed without_edge b (Err (Point 3)) e claimed h edge_missing),
       (
-        λ b e h. at_claimed with_edge b (Ok 0) e one_closed h edge_fits,
+        ((one_closed, edge_fits), λ b e h. at_claimed with_edge b (Ok 0) e one_closed h edge_fits),
         (
-          λ b e h. at_role by_chain b (Err (RoleAxiom 0)) e with_role h chain_breaks,
+          ((with_role, chain_breaks), λ b e h. at_role by_chain b (Err (RoleAxiom 0)) e with_role h chain_breaks),
           (
-            λ b e h. at_role by_closed_chain b (Ok 0) e with_chain h closed_chain_fits,
+            ((with_chain, closed_chain_fits), λ b e h. at_role by_closed_chain b (Ok 0) e with_chain h closed_chain_fits),
             tt,
           ),
         ),

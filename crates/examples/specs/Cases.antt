@@ -10,11 +10,15 @@ use Rattle.logic.specs.Roles.{Below, Transitive}
 use Rattle.logic.specs.Interpretations.{MeetsRoleAxioms}
 use Rattle.logic.specs.Meaning.{LiesIn}
 use Rattle.vocabulary.specs.declared.Vocabulary.{Vocabulary}
+use Rattle.register.specs.Registers.{room}
 use Rattle.schemas.specs.Table.{Applies}
+use Rattle.schemas.specs.House.{house}
+use Rattle.book.specs.declared.filing.Draft.{Draft}
+use Rattle.book.specs.Drafts.{Admitted}
 use Rattle.models.specs.declared.Model.{Model}
 use Rattle.models.specs.Models.{described}
 use Rattle.docket.specs.declared.Docket.{Docket}
-use Rattle.docket.specs.Dockets.{Fresh}
+use Rattle.docket.specs.Dockets.{lines, Fresh}
 use Rattle.docket.specs.Calls.{Call, Acts}
 use Rattle.docket.specs.Runs.{Reached}
 use Rattle.facts.specs.Events.{Event, Ran}
@@ -26,6 +30,8 @@ pub data Case : Type 0 where
   transitive : List RoleAxiom → (r : ℕ) → Bool → Case
   -- with this vocabulary, and at the label with these members, the step applies, or it doesn't
   applies : Vocabulary → List ℕ → (rule p q s : ℕ) → Bool → Case
+  -- the docket has what filing asks for the draft by the ten rules, or it hasn't
+  admits : Docket → Draft → Bool → Case
   -- the model meets these role axioms, or it doesn't
   meets : Model → List RoleAxiom → Bool → Case
   -- in the model this element lies in concept c of the list, or it doesn't
@@ -36,7 +42,7 @@ pub data Case : Type 0 where
   reaches : Docket → Case
   -- the first docket becomes the second as these calls are made, and so answered
   runs : Docket → List Event → Docket → Case
-  -- the call has this answer, and no other
+  -- the docket gives the call this answer, and can give no other
   answers : Docket → Call → Result ℕ Refusal → Case
   -- the refusal is returned as this number and this place
   returns : Refusal → (number place : ℕ) → Case
@@ -50,12 +56,13 @@ abbrev pub Holds : Case → Type 0
 Holds (below axioms r s b) = Is (Below axioms r s) b
 Holds (transitive axioms r b) = Is (Transitive axioms r) b
 Holds (applies v ms rule p q s b) = Is (Applies v (has (row ms)) rule p q s) b
+Holds (admits d f b) = Is (Admitted house d.vocabulary (lines d) (room d.book) f) b
 Holds (meets m axioms b) = Is (MeetsRoleAxioms (described m) axioms) b
 Holds (lies m cs c e b) = Is (LiesIn (described m) cs c e) b
 Holds (opens d) = Fresh d
 Holds (reaches d) = Reached d
 Holds (runs d xs e) = Ran d xs e
-Holds (answers d c a) = (b : Result ℕ Refusal) (e : Docket) → Acts c d b e → b ≡ a
+Holds (answers d c a) = ((e : Docket) × Acts c d a e) × ((b : Result ℕ Refusal) (e : Docket) → Acts c d b e → b ≡ a)
 Holds (returns x number place) = returned x ≡ (number, place)
 
 abbrev pub AllHold : List Case → Type 0

@@ -1,16 +1,15 @@
 -- Calls on small dockets, one after another, and their answers.
-use Rattle.std.specs.Prelude.{ℕ, List, [], ◌∷◌, ◌++◌, Ok, Err, Result}
+use Rattle.std.specs.Prelude.{ℕ, true, false, List, [], ◌∷◌, ◌++◌, take, Ok, Err, Result}
 use Rattle.refusals.specs.declared.Refusal.{Refusal}
 use Rattle.refusals.specs.declared.Refusal.TheVariants.{Absent, Inapplicable, Outside, RoleAxiom, Point}
 use Rattle.claims.specs.declared.Status.TheVariants.{Open as Unsettled, Empty, Inhabited}
-use Rattle.claims.specs.declared.Claim.{Claim}
 use Rattle.schemas.specs.House.{house}
 use Rattle.docket.specs.declared.Docket.{Docket}
 use Rattle.docket.specs.declared.phase.Phase.TheVariants.{Open, Sealed}
 use Rattle.docket.specs.Calls.{Call, transitivity, concept, pair, seal, line, claim, close_empty, close_inhabited}
 use Rattle.facts.specs.Events.{Event}
-use Rattle.examples.specs.Cases.{Case, opens, reaches, runs, answers, returns}
-use Rattle.examples.specs.SmallDocket.{no_role_axiom, vocabulary, docket, no_pair, six, seven, one_transitive, clash, other_clash, neighbour, cut_with, four_lines, claim_of, model, one_edge, chain, closed_chain, rows}
+use Rattle.examples.specs.Cases.{Case, admits, opens, reaches, runs, answers, returns}
+use Rattle.examples.specs.SmallDocket.{no_role_axiom, vocabulary, docket, no_pair, six, seven, one_transitive, clash, other_clash, neighbour, cut_with, four_lines, claim_of, three_claims, model, one_edge, chain, closed_chain, rows, rows_at_first, rows_without_edge, rows_with_edge}
 
 abbrev pub event : Call → Result ℕ Refusal → Event
 event c a = record { call = c; answer = a }
@@ -32,8 +31,12 @@ vocabulary_events =
     ∷ event seal (Ok 0)
     ∷ []
 
+-- the sealed docket with the first n lines
+abbrev pub with_first : ℕ → Docket
+with_first n = docket Sealed six (take n four_lines) []
+
 abbrev pub sealed : Docket
-sealed = docket Sealed six [] []
+sealed = with_first 0
 
 -- the lines; what cites line 1 is refused before line 1 stands
 abbrev pub line_events : List Event
@@ -46,23 +49,23 @@ line_events =
     ∷ []
 
 abbrev pub with_lines : Docket
-with_lines = docket Sealed six four_lines []
+with_lines = with_first 4
 
 -- claims of three labels
 abbrev pub claim_events : List Event
 claim_events = event (claim (0 ∷ 3 ∷ [])) (Ok 0) ∷ event (claim (0 ∷ [])) (Ok 1) ∷ event (claim (3 ∷ [])) (Ok 2) ∷ []
 
 abbrev pub claimed : Docket
-claimed = docket Sealed six four_lines (claim_of (0 ∷ 3 ∷ []) Unsettled ∷ claim_of (0 ∷ []) Unsettled ∷ claim_of (3 ∷ []) Unsettled ∷ [])
+claimed = docket Sealed six four_lines (three_claims Unsettled Unsettled Unsettled)
 
--- two elements as a model for claim 2, without an edge and with one; the working rows say which elements lie in each concept
+-- two elements as a model for claim 2, without an edge and with one
 abbrev pub without_edge : Call
-without_edge = close_inhabited 2 (model 2 [] []) (rows (0 ∷ 0 ∷ 0 ∷ 0 ∷ 0 ∷ 0 ∷ [])) (rows (0 ∷ 3 ∷ 3 ∷ 0 ∷ 0 ∷ 3 ∷ []))
+without_edge = close_inhabited 2 (model 2 [] []) rows_at_first rows_without_edge
 
 abbrev pub with_edge : Call
-with_edge = close_inhabited 2 (model 2 [] one_edge) (rows (0 ∷ 3 ∷ 3 ∷ 0 ∷ 0 ∷ 3 ∷ [])) (rows (0 ∷ 3 ∷ 3 ∷ 1 ∷ 0 ∷ 2 ∷ []))
+with_edge = close_inhabited 2 (model 2 [] one_edge) rows_without_edge rows_with_edge
 
--- the point is not in concept 3 without the edge, and the label of line 3 does not lie within claim 1's
+-- without the edge the point misses concept 3, and claim 1 lacks it
 abbrev pub closing_events : List Event
 closing_events =
     event without_edge (Err (Point 3))
@@ -71,11 +74,8 @@ closing_events =
     ∷ event (close_empty 0 3) (Ok 0)
     ∷ []
 
-abbrev pub closed_claims : List Claim
-closed_claims = claim_of (0 ∷ 3 ∷ []) Empty ∷ claim_of (0 ∷ []) Unsettled ∷ claim_of (3 ∷ []) Inhabited ∷ []
-
 abbrev pub with_closings : Docket
-with_closings = docket Sealed six four_lines closed_claims
+with_closings = docket Sealed six four_lines (three_claims Empty Unsettled Inhabited)
 
 -- the last line again, with another concept in the second case
 abbrev pub astray_events : List Event
@@ -86,7 +86,7 @@ abbrev pub all_events : List Event
 all_events = vocabulary_events ++ (line_events ++ (claim_events ++ (closing_events ++ astray_events)))
 
 abbrev pub at_last : Docket
-at_last = docket Sealed seven four_lines closed_claims
+at_last = docket Sealed seven four_lines (three_claims Empty Unsettled Inhabited)
 
 -- three elements as a model, in a docket with a transitive role and one concept: a chain of two edges, without its shortcut
 -- and with it
@@ -121,6 +121,17 @@ run_cases =
     -- the docket with a transitive role
     ∷ runs opened role_events with_role
     ∷ runs with_role chain_events with_chain
+    ∷ []
+
+-- which drafts are admitted: not one that cites a line which doesn't stand, nor one whose step doesn't apply
+abbrev pub draft_cases : List Case
+draft_cases =
+    admits sealed clash true
+    ∷ admits (with_first 1) neighbour false
+    ∷ admits (with_first 1) other_clash true
+    ∷ admits (with_first 2) neighbour true
+    ∷ admits (with_first 3) (cut_with 5) true
+    ∷ admits at_last (cut_with 6) false
     ∷ []
 
 -- what models are answered

@@ -33,7 +33,7 @@ handed ms = record { ref_ptr = (0, 0); now = bytes ms }
 abbrev pub lent : {X : Type 0} → List X → MutBor (List X)
 lent xs = record { ref_ptr = (0, 0); ghost_name = 0; now = xs }
 
--- a register that is full with n entries
+-- a register with these entries, and room for n
 abbrev pub register : {X : Type 0} → ℕ → X → List X → Register X
 register n free xs = record { slots = lent (xs ++ replicate (n - length xs) free); used = length xs; capacity = n }
 
@@ -115,6 +115,10 @@ four_lines = line_of house clash ∷ line_of house other_clash ∷ line_of house
 abbrev pub claim_of : List ℕ → Status → Claim
 claim_of ms s = record { label = row ms; status = s }
 
+-- three claims
+abbrev pub three_claims : (first second third : Status) → List Claim
+three_claims x y z = claim_of (0 ∷ 3 ∷ []) x ∷ claim_of (0 ∷ []) y ∷ claim_of (3 ∷ []) z ∷ []
+
 -- a model with this many elements, the point 0, these marks, each an element and a name, and these edges, each a role name
 -- and its ends
 abbrev pub model : ℕ → (marks edges : List ℕ) → Model
@@ -134,7 +138,20 @@ chain = 0 ∷ 0 ∷ 1 ∷ 0 ∷ 1 ∷ 2 ∷ []
 abbrev pub closed_chain : List ℕ
 closed_chain = 0 ∷ 0 ∷ 1 ∷ 0 ∷ 0 ∷ 2 ∷ 0 ∷ 1 ∷ 2 ∷ []
 
--- working rows for sets of few elements: the first word of each
+-- working rows that are sets of few elements, each by its first word
 abbrev pub rows : List ℕ → List ℕ
 rows [] = []
 rows (w ∷ ws) = w ∷ 0 ∷ 0 ∷ 0 ∷ rows ws
+
+-- the sets of the six concepts: none yet, and those in a model of two elements without an edge, with one, and with a mark too
+abbrev pub rows_at_first : List ℕ
+rows_at_first = rows (0 ∷ 0 ∷ 0 ∷ 0 ∷ 0 ∷ 0 ∷ [])
+
+abbrev pub rows_without_edge : List ℕ
+rows_without_edge = rows (0 ∷ 3 ∷ 3 ∷ 0 ∷ 0 ∷ 3 ∷ [])
+
+abbrev pub rows_with_edge : List ℕ
+rows_with_edge = rows (0 ∷ 3 ∷ 3 ∷ 1 ∷ 0 ∷ 2 ∷ [])
+
+abbrev pub rows_with_mark : List ℕ
+rows_with_mark = rows (1 ∷ 2 ∷ 1 ∷ 0 ∷ 2 ∷ 3 ∷ [])
