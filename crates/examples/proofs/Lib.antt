@@ -1,2 +1,15 @@
 mod Tests
+mod Meeting
 mod Passing
+mod Judging
+mod Models
+mod Claims
+mod OneJudgement
+mod OneAnswer
+mod Opening
+mod Running
+mod Reaching
+mod Steps
+mod Drafting
+mod Lying
+mod Runs

@@ -1,8 +1,8 @@
 -- Transitive as a test, for examples by computing.
-use mathlib.Core.Bool.{Bool, true, false, ◌||◌}
+use mathlib.Core.Bool.{Bool, false, ◌||◌}
 use mathlib.Core.List.Memᴰ
 use mathlib.Core.List.{List, [], ◌∷◌, Memᴰ}
-use mathlib.Core.Logic.{◌⊎◌, inl, inr, ⊎_elim, ◌↔◌}
+use mathlib.Core.Logic.{inl, inr, ⊎_elim, ◌↔◌}
 use mathlib.Core.Path.{◌≡◌, ap}
 use Prim.Native.Nat.{ℕ}
 use native.Mathlib.Omega.{arith}
@@ -10,6 +10,7 @@ use lib.Dec.{T, eqb, eqb→eq, eqb_refl}
 use Rattle.logic.specs.declared.role.RoleAxiom.{RoleAxiom}
 use Rattle.logic.specs.declared.role.RoleAxiom.TheVariants.{Inclusion, Transitivity}
 use Rattle.logic.specs.Roles.{inverse, Transitive}
+use Rattle.models.proofs.Tests.{or_out, or_left, or_right}
 
 -- whether the list has the transitivity of r
 abbrev pub is_named : List RoleAxiom → ℕ → Bool
@@ -19,15 +20,6 @@ is_named (Transitivity a ∷ axioms) r = eqb r a || is_named axioms r
 
 abbrev pub is_transitive : List RoleAxiom → ℕ → Bool
 is_transitive axioms r = is_named axioms r || is_named axioms (inverse r)
-
-or_out : (x y : Bool) → T (x || y) → T x ⊎ T y
-or_out true y h = inl tt
-or_out false y h = inr h
-
-or_in : (x y : Bool) → T x ⊎ T y → T (x || y)
-or_in true y h = tt
-or_in false y (inl h) = absurd h
-or_in false y (inr h) = h
 
 transitivity≢inclusion : {r a b : ℕ} → Transitivity r ≡ Inclusion a b → ⊥
 transitivity≢inclusion e = let z : ◌≡◌ {A = ℕ} 0 1 = cc in omega arith
@@ -46,7 +38,7 @@ names_decided (Transitivity a ∷ axioms) r = (
       (λ t. Memᴰ.head (ap Transitivity (eqb→eq r a t)))
       (λ t. Memᴰ.tail ((names_decided axioms r).0 t))
       (or_out (eqb r a) (is_named axioms r) h),
-  λ m. or_in (eqb r a) (is_named axioms r) (⊎_elim (λ e. inl (same_role e)) (λ k. inr ((names_decided axioms r).1 k)) (Memᴰ.cases_cons m)),
+  λ m. ⊎_elim (λ e. or_left _ _ (same_role e)) (λ k. or_right (eqb r a) _ ((names_decided axioms r).1 k)) (Memᴰ.cases_cons m),
 )
 
 pub transitive_decided : (axioms : List RoleAxiom) (r : ℕ) → T (is_transitive axioms r) ↔ Transitive axioms r
@@ -55,6 +47,5 @@ transitive_decided axioms r = (
       (λ t. inl ((names_decided axioms r).0 t))
       (λ t. inr ((names_decided axioms (inverse r)).0 t))
       (or_out (is_named axioms r) (is_named axioms (inverse r)) h),
-  λ h. or_in (is_named axioms r) (is_named axioms (inverse r))
-      (⊎_elim (λ m. inl ((names_decided axioms r).1 m)) (λ m. inr ((names_decided axioms (inverse r)).1 m)) h),
+  λ h. ⊎_elim (λ m. or_left _ _ ((names_decided axioms r).1 m)) (λ m. or_right (is_named axioms r) _ ((names_decided axioms (inverse r)).1 m)) h,
 )

@@ -1,63 +1,10 @@
--- The table of worked examples: what the definitions say of small cases.
-use Rattle.std.specs.Prelude.{Bool, true, false, List, [], ◌∷◌, ℕ}
-use Rattle.logic.specs.declared.role.RoleAxiom.{RoleAxiom}
-use Rattle.logic.specs.declared.role.RoleAxiom.TheVariants.{Inclusion, Transitivity}
-use Rattle.logic.specs.Roles.{Below, Transitive}
-
-pub data Case : Type 0 where
-  -- under these role axioms role r is below role s, or it isn't
-  below : List RoleAxiom → (r s : ℕ) → Bool → Case
-  -- under these role axioms role r is transitive, or it isn't
-  transitive : List RoleAxiom → (r : ℕ) → Bool → Case
-
--- the statement holds, or it doesn't
-abbrev pub Is : Type 0 → Bool → Type 0
-Is P true = P
-Is P false = P → ⊥
-
-abbrev pub Holds : Case → Type 0
-Holds (below axioms r s b) = Is (Below axioms r s) b
-Holds (transitive axioms r b) = Is (Transitive axioms r) b
-
-abbrev pub AllHold : List Case → Type 0
-AllHold [] = Unit {0}
-AllHold (c ∷ cs) = Holds c × AllHold cs
-
--- one inclusion, of the last role name in the first
-abbrev pub last_in_first : List RoleAxiom
-last_in_first = Inclusion 126 0 ∷ []
-
--- a role below a transitive one
-abbrev pub below_transitive : List RoleAxiom
-below_transitive = Inclusion 0 2 ∷ Transitivity 2 ∷ []
-
--- a chain of two inclusions
-abbrev pub two_steps : List RoleAxiom
-two_steps = Inclusion 124 126 ∷ Inclusion 126 2 ∷ []
+-- The table of worked cases: what the definitions say of small cases.
+use Rattle.std.specs.Prelude.{List, ◌++◌}
+use Rattle.examples.specs.Cases.{Case}
+use Rattle.examples.specs.RoleCases.{role_cases}
+use Rattle.examples.specs.StepCases.{step_cases}
+use Rattle.examples.specs.RunCases.{run_cases, draft_cases, answer_cases, refusal_cases}
+use Rattle.examples.specs.ModelCases.{meeting_cases, lying_cases}
 
 abbrev pub cases : List Case
-cases =
-    -- the inverses are included too, and a role in its own inverse is not; nor does an inclusion turn round
-    below last_in_first 126 0 true
-    ∷ below last_in_first 127 1 true
-    ∷ below last_in_first 127 0 false
-    ∷ below last_in_first 126 1 false
-    ∷ below last_in_first 0 126 false
-    ∷ below last_in_first 1 127 false
-    ∷ below last_in_first 126 126 true
-    ∷ below last_in_first 126 127 false
-    -- a role is transitive with its inverse, and nothing that is below it is so for that
-    ∷ transitive below_transitive 2 true
-    ∷ transitive below_transitive 3 true
-    ∷ transitive below_transitive 0 false
-    ∷ transitive below_transitive 1 false
-    ∷ below below_transitive 0 2 true
-    ∷ below below_transitive 1 3 true
-    ∷ below below_transitive 2 0 false
-    ∷ transitive last_in_first 126 false
-    -- inclusions go on along a chain
-    ∷ below two_steps 124 2 true
-    ∷ below two_steps 125 3 true
-    ∷ below two_steps 125 2 false
-    ∷ below two_steps 2 124 false
-    ∷ []
+cases = role_cases ++ (step_cases ++ (run_cases ++ (draft_cases ++ (answer_cases ++ (refusal_cases ++ (meeting_cases ++ lying_cases))))))

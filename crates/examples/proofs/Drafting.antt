@@ -1,0 +1,47 @@
+-- Which drafts are admitted, by the rows.
+use Rattle.std.proofs.Common.{◌≡◌, ℕ, Some, None, refl, arith}
+use Rattle.refusals.specs.declared.Refusal.{Refusal}
+use Rattle.refusals.specs.declared.Refusal.TheVariants.{Absent, Inapplicable}
+use Rattle.refusals.specs.Checks.{first}
+use Rattle.register.specs.Registers.{room}
+use Rattle.labels.specs.Least.{least}
+use Rattle.labels.specs.Labels.{row}
+use Rattle.schemas.specs.Tests.{some_below}
+use Rattle.schemas.specs.House.{house}
+use Rattle.book.specs.declared.filing.Draft.{Draft}
+use Rattle.book.specs.Drafts.{draft_rows, Admitted}
+use Rattle.book.proofs.Admitting.{rows_are_right}
+use Rattle.docket.specs.declared.Docket.{Docket}
+use Rattle.docket.specs.Dockets.{lines}
+use Rattle.examples.specs.Cases.{AllHold}
+use Rattle.examples.specs.SmallDocket.{clash, other_clash, neighbour, cut_with}
+use Rattle.examples.specs.RunCases.{sealed, with_first, at_last, draft_cases}
+
+module _ (d : Docket) (f : Draft) where
+  admitted : first (draft_rows house d.vocabulary (lines d) (room d.book) f) ≡ None → Admitted house d.vocabulary (lines d) (room d.book) f
+  admitted h = (rows_are_right house d.vocabulary (lines d) (room d.book) f).0 h
+
+  refused : (x : Refusal) → first (draft_rows house d.vocabulary (lines d) (room d.book) f) ≡ Some x → Admitted house d.vocabulary (lines d) (room d.book) f → ⊥
+  refused x h a = let e = (rows_are_right house d.vocabulary (lines d) (room d.book) f).1 a in let z : ◌≡◌ {A = ℕ} 0 1 = cc in omega arith
+
+pub drafts_hold : AllHold draft_cases
+unfolding least row some_below
+drafts_hold = (
+  admitted sealed clash refl,
+  (
+    refused (with_first 1) neighbour (Absent 4) refl,
+    (
+      admitted (with_first 1) other_clash refl,
+      (
+        admitted (with_first 2) neighbour refl,
+        (
+          admitted (with_first 3) (cut_with 5) refl,
+          (
+            refused at_last (cut_with 6) (Inapplicable 8) refl,
+            tt,
+          ),
+        ),
+      ),
+    ),
+  ),
+)
