@@ -12,3 +12,4 @@ pub mod reader;
 pub mod refusals;
 pub mod roles;
 pub mod rules;
+pub mod writer;
