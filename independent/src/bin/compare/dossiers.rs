@@ -146,7 +146,7 @@ fn full(mut random: Random, size: Size) -> Vec<u8> {
     let mut out = Vec::new();
     let around = |random: &mut Random, capacity: usize, often: usize| {
         if random.percent(often) {
-            capacity + random.below(5) - 1
+            capacity + random.below(12) - 1
         } else {
             random.between(1, 12)
         }
@@ -202,7 +202,8 @@ fn full(mut random: Random, size: Size) -> Vec<u8> {
     if random.percent(50) {
         out.push(Written::new(3, [random.below(9) as u16, 0, 0]));
     }
-    let label = |random: &mut Random| -> Vec<u16> {
+    // Broken labels come thickest behind the last place, where they compete with the refusal of a full list.
+    let label = |random: &mut Random, broken: usize| -> Vec<u16> {
         let mut label = vec![1];
         let mut last = 1;
         while random.percent(30) {
@@ -211,25 +212,42 @@ fn full(mut random: Random, size: Size) -> Vec<u8> {
                 label.push(last as u16);
             }
         }
-        match random.below(30) {
-            0 => label.push(0),
-            1 => label.push(standing as u16),
-            2 => label.extend([0, standing as u16]),
-            _ => {}
+        if random.percent(broken) {
+            match random.below(3) {
+                0 => label.push(0),
+                1 => label.push(standing as u16),
+                _ => label.extend([0, standing as u16]),
+            }
         }
         label
     };
     for _ in 0..lines {
-        let label = label(&mut random);
-        out.push(Written::line([1, 1, 0, 0, 0, 0], label));
+        if random.percent(4) {
+            let broken = label(&mut random, 100);
+            out.push(Written::line([1, 1, 0, 0, 0, 0], broken));
+        }
+        let whole = label(&mut random, 0);
+        out.push(Written::line([1, 1, 0, 0, 0, 0], whole));
+    }
+    for _ in 0..random.below(6) {
+        let (rule, any) = (random.between(1, 11) as u16, label(&mut random, 50));
+        out.push(Written::line([rule, 1, 0, 0, 0, random.below(2) as u16], any));
     }
     for at in 0..claims {
-        let label = label(&mut random);
-        out.push(Written::new(8, label));
+        if random.percent(4) {
+            let broken = label(&mut random, 100);
+            out.push(Written::new(8, broken));
+        }
+        let whole = label(&mut random, 0);
+        out.push(Written::new(8, whole));
         if random.percent(40) {
             let line = random.below(lines + 2) as u16;
             out.push(Written::new(9, [random.below(at + 2) as u16, line]));
         }
+    }
+    for _ in 0..random.below(6) {
+        let any = label(&mut random, 50);
+        out.push(Written::new(8, any));
     }
     out.push(Written::new(10, [0, 0, 1, 0]));
     write_all(&out)

@@ -167,6 +167,15 @@ impl World {
         if let Some(mate) = self.docket.concepts().mate(number) {
             return Some(mate);
         }
+        if self.missing() {
+            let near = self.near_opposite(opposite);
+            if let Some(near) = self.need(near) {
+                self.file(Written::new(4, [number, near]));
+            }
+            if let Some(mate) = self.docket.concepts().mate(number) {
+                return Some(mate);
+            }
+        }
         let free = (0..self.count() as u16).find(|&other| {
             self.docket.concepts().get(other) == opposite && self.docket.concepts().mate(other).is_none()
         });
@@ -191,6 +200,40 @@ impl World {
         };
         self.file(Written::new(4, pair));
         self.docket.concepts().mate(number)
+    }
+
+    /// What looks much like this concept, and now and then is it.
+    fn near_opposite(&mut self, opposite: Concept) -> Concept {
+        let any = self.random.below(self.count()) as u16;
+        let way = self.random.below(3);
+        match opposite {
+            Concept::Name(name) | Concept::NotName(name) => match way {
+                0 => Concept::Name(name),
+                1 => Concept::NotName(name),
+                _ => Concept::NotName(self.random.one_of(&self.names)),
+            },
+            Concept::And(a, b) => match way {
+                0 => Concept::And(b, a),
+                1 => Concept::Or(a, b),
+                _ => Concept::And(a, any),
+            },
+            Concept::Or(a, b) => match way {
+                0 => Concept::Or(b, a),
+                1 => Concept::And(a, b),
+                _ => Concept::Or(any, b),
+            },
+            Concept::Only(role, part) => match way {
+                0 => Concept::Only(role.inverse(), part),
+                1 => Concept::Exists(role, part),
+                _ => Concept::Only(self.role(), any),
+            },
+            Concept::Exists(role, part) => match way {
+                0 => Concept::Exists(role.inverse(), part),
+                1 => Concept::Only(role, part),
+                _ => Concept::Exists(self.role(), any),
+            },
+            Concept::Top | Concept::Bottom => Concept::Or(any, any),
+        }
     }
 
     fn random_concept(&mut self) -> Option<u16> {
@@ -335,7 +378,12 @@ impl World {
 
     fn line_step(&mut self) {
         let rule = self.random.between(1, 10) as u16;
-        let Some(record) = self.line(rule) else {
+        if self.missing() {
+            if let Some(loose) = self.line(rule, true) {
+                self.file(loose);
+            }
+        }
+        let Some(record) = self.line(rule, false) else {
             return;
         };
         if record.fields.len() > 6 + self.plan.label {
@@ -348,8 +396,9 @@ impl World {
         self.file(record);
     }
 
-    /// A line by this rule that the lines so far license: the cited labels less what the conclusion brings along.
-    fn line(&mut self, rule: u16) -> Option<Written> {
+    /// A line by this rule that the lines so far license: the cited labels less what the conclusion brings along. A loose
+    /// one may have any role where the rule asks for a certain one.
+    fn line(&mut self, rule: u16, loose: bool) -> Option<Written> {
         let mut label = self.some_members(3);
         let line = |leading: [u16; 6], label: Members| Some(Written::line(leading, label));
         match rule {
@@ -407,7 +456,7 @@ impl World {
                     .filter_map(Role::new)
                     .filter(|&upper| self.docket.roles().is_below(lower, upper))
                     .collect();
-                let upper = self.random.one_of(&above);
+                let upper = if loose { self.role() } else { self.random.one_of(&above) };
                 let p = self.need(Concept::Only(upper, part))?;
                 label.extend(less(&cited, &[q]));
                 label.insert(p);
@@ -428,20 +477,28 @@ impl World {
                         .filter_map(Role::new)
                         .filter(|&role| self.docket.roles().is_transitive(role))
                         .collect();
-                    role = *self.random.pick(&transitive)?;
+                    if !loose {
+                        role = *self.random.pick(&transitive)?;
+                    }
                     let part = self.any_concept()?;
                     self.need(Concept::Only(role, part))?
                 } else {
                     self.member_or_any(&one)?
                 };
                 let q = self.mate(p)?;
+                let back = if loose && self.random.percent(50) {
+                    self.role()
+                } else {
+                    role.inverse()
+                };
                 let s = match rule {
                     7 => 0,
                     8 => {
-                        let inner = self.need(Concept::Exists(role.inverse(), q))?;
+                        let part = if loose && self.random.percent(30) { p } else { q };
+                        let inner = self.need(Concept::Exists(back, part))?;
                         self.need(Concept::Only(role, inner))?
                     }
-                    _ => self.need(Concept::Only(role.inverse(), q))?,
+                    _ => self.need(Concept::Only(back, q))?,
                 };
                 label.extend(less(&one, &[p]));
                 label.extend(if rule == 7 {
@@ -462,10 +519,16 @@ impl World {
                     }
                     if let Concept::Only(upper, _) = self.docket.concepts().get(member) {
                         let roles = self.docket.roles();
-                        if roles.is_below(role, upper) && roles.is_transitive(upper) {
+                        let carried = roles.is_below(role, upper) && roles.is_transitive(upper);
+                        if carried || loose && self.random.percent(60) {
                             label.insert(member);
                             continue;
                         }
+                    }
+                    if loose && self.random.percent(30) {
+                        let upper = self.role();
+                        label.insert(self.need(Concept::Only(upper, member))?);
+                        continue;
                     }
                     if inner.is_none() && self.random.percent(50) {
                         inner = Some(member);
