@@ -285,12 +285,16 @@ fn damage_record(random: &mut Random, records: &mut Vec<Written>) {
         4 => {
             if let Some(&line) = random.pick(&lines) {
                 let field = random.one_of(&[0, 1, 2, 3, 4, 4, 5, 5]);
-                records[line].fields[field] = random.below(10) as u16;
+                if let Some(field) = records[line].fields.get_mut(field) {
+                    *field = random.below(10) as u16;
+                }
             }
         }
         5 => {
             if let Some(&line) = random.pick(&lines) {
-                records[line].fields[6..].reverse();
+                if let Some(members) = records[line].fields.get_mut(6..) {
+                    members.reverse();
+                }
             }
         }
         6 => {
