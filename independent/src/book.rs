@@ -1,7 +1,7 @@
 //! The lines.
 
 use crate::concepts::Concepts;
-use crate::labels::{Label, Members};
+use crate::labels::Label;
 use crate::reader::field;
 use crate::refusals::Refusal;
 use crate::roles::Roles;
@@ -16,7 +16,7 @@ impl Book {
     pub fn new(capacity: usize) -> Self {
         Book {
             capacity,
-            lines: Vec::new(),
+            lines: Vec::with_capacity(capacity),
         }
     }
 
@@ -55,19 +55,21 @@ impl Book {
         if cited >= 2 {
             self.line(n, 5)?;
         }
-        let members = Members::read(&body[12..], 6, concepts.count())?;
+        let mut label = Label::EMPTY;
+        let rising = label.read(&body[12..], 6, concepts.count())?;
         let number = self.lines.len();
         if number == self.capacity {
             return Err(Refusal::full(self.capacity));
         }
-        let label = members.rising()?;
+        rising?;
         match rules::conclude(roles, concepts, step, &label) {
             None => return Err(Refusal::does_not_apply(usize::from(step.rule))),
             Some(Conclusions::None) => {}
-            Some(Conclusions::One(first)) => self.fits(m, &first)?,
-            Some(Conclusions::Two(first, second)) => {
-                self.fits(m, &first)?;
-                self.fits(n, &second)?;
+            Some(Conclusions::Own(conclusion)) => self.fits(m, &conclusion)?,
+            Some(Conclusions::One(more)) => self.fits(m, &label.with(more))?,
+            Some(Conclusions::Two(more, other)) => {
+                self.fits(m, &label.with(more))?;
+                self.fits(n, &label.with(other))?;
             }
         }
         self.lines.push(label);

@@ -1,6 +1,6 @@
 //! The claims and how they are settled.
 
-use crate::labels::{Label, Members};
+use crate::labels::Label;
 use crate::refusals::Refusal;
 
 pub const CLAIMS: usize = 256;
@@ -29,13 +29,15 @@ pub struct Tally {
 
 impl Claims {
     pub fn file(&mut self, members: &[u8], standing: usize) -> Result<usize, Refusal> {
-        let members = Members::read(members, 0, standing)?;
+        let mut label = Label::EMPTY;
+        let rising = label.read(members, 0, standing)?;
         let number = self.0.len();
         if number == CLAIMS {
             return Err(Refusal::full(CLAIMS));
         }
+        rising?;
         self.0.push(Claim {
-            label: members.rising()?,
+            label,
             settled: Settled::Open,
         });
         Ok(number)

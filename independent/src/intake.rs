@@ -29,45 +29,75 @@ pub fn report(file: &[u8], size: Size) -> Vec<u8> {
     let mut docket = Docket::new(size.concepts, size.lines);
     let mut out = Vec::with_capacity(file.len() * 2 + 64);
     for (index, record) in (1..).zip(Reader::new(file)) {
-        number(&mut out, index);
-        out.push(b' ');
-        number(&mut out, u32::from(record.kind));
+        let mut line = Line::new();
         match record.body.and_then(|body| docket.take(record.kind, body)) {
             Ok(entry) => {
-                out.extend_from_slice(b" ok ");
-                number(&mut out, entry);
+                line.number(entry);
+                line.text(b" ok ");
             }
             Err(refusal) => {
-                out.extend_from_slice(b" refused ");
-                number(&mut out, u32::from(refusal.number));
-                out.push(b' ');
-                number(&mut out, refusal.place);
+                line.number(refusal.place);
+                line.text(b" ");
+                line.number(u32::from(refusal.number));
+                line.text(b" refused ");
             }
         }
-        out.push(b'\n');
+        line.number(u32::from(record.kind));
+        line.text(b" ");
+        line.number(index);
+        out.extend_from_slice(line.bytes());
     }
     let tally = docket.tally();
-    out.extend_from_slice(b"end ");
-    number(&mut out, tally.open as u32);
-    out.push(b' ');
-    number(&mut out, tally.empty as u32);
-    out.push(b' ');
-    number(&mut out, tally.inhabited as u32);
-    out.push(b'\n');
+    let mut line = Line::new();
+    line.number(tally.inhabited as u32);
+    line.text(b" ");
+    line.number(tally.empty as u32);
+    line.text(b" ");
+    line.number(tally.open as u32);
+    line.text(b"end ");
+    out.extend_from_slice(line.bytes());
     out
 }
 
-/// Writes a number in decimal; by hand, since the formatting machinery costs more than most records.
-fn number(out: &mut Vec<u8>, mut number: u32) {
-    let mut digits = [0; 10];
-    let mut at = digits.len();
-    loop {
-        at -= 1;
-        digits[at] = b'0' + (number % 10) as u8;
-        number /= 10;
-        if number == 0 {
-            break;
+/// A line of the report, written from its end, as the digits of a number come from the last to the first. By hand, since
+/// the formatting machinery costs more than most records.
+struct Line {
+    bytes: [u8; Line::LENGTH],
+    at: usize,
+}
+
+impl Line {
+    /// Room for four numbers of ten digits and the longest words.
+    const LENGTH: usize = 64;
+
+    fn new() -> Self {
+        let mut bytes = [0; Line::LENGTH];
+        bytes[Line::LENGTH - 1] = b'\n';
+        Line {
+            bytes,
+            at: Line::LENGTH - 1,
         }
     }
-    out.extend_from_slice(&digits[at..]);
+
+    #[inline]
+    fn number(&mut self, mut number: u32) {
+        loop {
+            self.at -= 1;
+            self.bytes[self.at] = b'0' + (number % 10) as u8;
+            number /= 10;
+            if number == 0 {
+                break;
+            }
+        }
+    }
+
+    #[inline]
+    fn text<const LENGTH: usize>(&mut self, text: &[u8; LENGTH]) {
+        self.at -= LENGTH;
+        self.bytes[self.at..self.at + LENGTH].copy_from_slice(text);
+    }
+
+    fn bytes(&self) -> &[u8] {
+        &self.bytes[self.at..]
+    }
 }

@@ -22,8 +22,9 @@ impl Label {
     }
 
     #[inline]
-    pub fn with(mut self, concept: u16) -> Label {
-        self.insert(concept);
+    pub fn with(mut self, [one, other]: [u16; 2]) -> Label {
+        self.insert(one);
+        self.insert(other);
         self
     }
 
@@ -43,17 +44,51 @@ impl Label {
         both
     }
 
+    #[inline]
+    pub fn is_within(&self, other: &Label) -> bool {
+        // All words without a branch, which goes by vectors.
+        let outside = self
+            .0
+            .iter()
+            .zip(&other.0)
+            .fold(0, |outside, (word, of)| outside | word & !of);
+        outside == 0
+    }
+
     /// The least concept of this label that `other` has not.
     #[inline]
     pub fn least_outside(&self, other: &Label) -> Option<u16> {
-        let within = self.0.iter().zip(&other.0).all(|(word, of)| word & !of == 0);
-        if within {
+        if self.is_within(other) {
             return None;
         }
         let (at, word) = (0..WORDS)
             .map(|at| (at, self.0[at] & !other.0[at]))
             .find(|(_, word)| *word != 0)?;
         Some(at as u16 * 64 + word.trailing_zeros() as u16)
+    }
+
+    /// Reads a list of members into an empty label. A member that doesn't stand is refused before all else; what is
+    /// handed back is whether they rise, which comes later. `first` is the position of the first member in the record.
+    #[inline]
+    pub fn read(&mut self, members: &[u8], first: usize, standing: usize) -> Result<Result<(), Refusal>, Refusal> {
+        let mut least_next = 0;
+        let mut rising = true;
+        for member in numbers(members) {
+            rising &= usize::from(member) >= least_next;
+            least_next = usize::from(member) + 1;
+            self.insert(member);
+        }
+        // If they rise, the last one is the greatest.
+        if rising && least_next <= standing {
+            return Ok(Ok(()));
+        }
+        if let Some(at) = numbers(members).position(|member| usize::from(member) >= standing) {
+            return Err(Refusal::not_standing(first + at));
+        }
+        let falls = numbers(members)
+            .zip(numbers(members).skip(1))
+            .position(|(one, next)| next <= one);
+        Ok(falls.map_or(Ok(()), |at| Err(Refusal::not_rising(first + at + 1))))
     }
 
     /// The concepts in rising order.
@@ -72,39 +107,9 @@ impl Label {
     }
 }
 
-/// A list of members as it was handed over: all of them stand, but it need not rise.
-pub struct Members {
-    label: Label,
-    not_rising: Option<usize>,
-}
-
-impl Members {
-    /// Looks the whole list through, as a member that doesn't stand is refused before all else. `first` is the position
-    /// of the first member in the record.
-    #[inline]
-    pub fn read(bytes: &[u8], first: usize, standing: usize) -> Result<Members, Refusal> {
-        let mut label = Label::EMPTY;
-        let mut not_rising = None;
-        let mut least_next = 0;
-        for (at, number) in bytes.chunks_exact(2).enumerate() {
-            let concept = u16::from_le_bytes([number[0], number[1]]);
-            if usize::from(concept) >= standing {
-                return Err(Refusal::not_standing(first + at));
-            }
-            if concept < least_next && not_rising.is_none() {
-                not_rising = Some(first + at);
-            }
-            least_next = concept + 1;
-            label.insert(concept);
-        }
-        Ok(Members { label, not_rising })
-    }
-
-    #[inline]
-    pub fn rising(self) -> Result<Label, Refusal> {
-        match self.not_rising {
-            None => Ok(self.label),
-            Some(place) => Err(Refusal::not_rising(place)),
-        }
-    }
+#[inline]
+fn numbers(members: &[u8]) -> impl Iterator<Item = u16> + '_ {
+    members
+        .chunks_exact(2)
+        .map(|number| u16::from_le_bytes([number[0], number[1]]))
 }

@@ -32,6 +32,20 @@ fn each_word(one: &Row, other: &Row, make: impl Fn(u64, u64) -> u64) -> Row {
     std::array::from_fn(|at| make(one[at], other[at]))
 }
 
+#[inline]
+fn elements_of(row: &Row) -> impl Iterator<Item = usize> + '_ {
+    row.iter().enumerate().flat_map(|(at, &word)| {
+        let mut left = word;
+        std::iter::from_fn(move || {
+            (left != 0).then(|| {
+                let bit = left.trailing_zeros() as usize;
+                left &= left - 1;
+                64 * at + bit
+            })
+        })
+    })
+}
+
 /// The first `size` elements.
 fn everybody(size: usize) -> Row {
     std::array::from_fn(|at| match size.saturating_sub(64 * at) {
@@ -204,7 +218,17 @@ impl Workspace {
         }
     }
 
+    /// Whether going through the table's rows is less work than going through the edges.
+    fn is_dense(&self, name: usize) -> bool {
+        self.pairs(name).len() > 2 * self.size
+    }
+
     fn evaluate(&mut self, concepts: &Concepts, marks: &[u8]) {
+        for name in 0..ROLE_NAMES {
+            if self.is_dense(name) {
+                self.tabulate(name);
+            }
+        }
         for mark in marks.chunks_exact(MARK) {
             put(
                 &mut self.names[usize::from(field(mark, 1)) % NAMES],
@@ -248,6 +272,20 @@ impl Workspace {
     fn neighbours_in(&self, role: Role, row: Row) -> Row {
         let mut found = NOBODY;
         if row == NOBODY {
+            return found;
+        }
+        if self.is_dense(role.name()) {
+            let table = &self.table(role.name())[..self.size];
+            if role.is_inverse() {
+                for element in elements_of(&row) {
+                    found = each_word(&found, &table[element], |found, more| found | more);
+                }
+            } else {
+                for (from, successors) in table.iter().enumerate() {
+                    let reaches = each_word(successors, &row, |successor, wanted| successor & wanted) != NOBODY;
+                    found[from / 64] |= u64::from(reaches) << (from % 64);
+                }
+            }
             return found;
         }
         // Branchless, as a neighbour may well lie on either side.

@@ -23,13 +23,21 @@ pub struct Step {
     pub s: u16,
 }
 
+/// Two concepts that join the label in a conclusion; the same twice where it is one.
+pub type More = [u16; 2];
+
 pub enum Conclusions {
     None,
-    One(Label),
-    Two(Label, Label),
+    /// The label and more.
+    One(More),
+    /// The label and more, and the label and other more.
+    Two(More, More),
+    /// A label of its own.
+    Own(Label),
 }
 
 /// What a step concludes from a label, or nothing if it doesn't apply. Its principals and the label's members stand.
+#[inline]
 pub fn conclude(roles: &Roles, concepts: &Concepts, step: Step, label: &Label) -> Option<Conclusions> {
     let Step { rule, p, q, s } = step;
     let lone = q == 0 && s == 0;
@@ -37,23 +45,23 @@ pub fn conclude(roles: &Roles, concepts: &Concepts, step: Step, label: &Label) -
         1 => (lone && label.has(p) && concepts.get(p) == Concept::Bottom).then_some(Conclusions::None),
         2 => (s == 0 && label.has(p) && label.has(q) && concepts.are_mates(p, q)).then_some(Conclusions::None),
         3 => match concepts.get(p) {
-            Concept::And(c, d) if lone && label.has(p) => Some(Conclusions::One(label.with(c).with(d))),
+            Concept::And(c, d) if lone && label.has(p) => Some(Conclusions::One([c, d])),
             _ => None,
         },
         4 => match concepts.get(p) {
-            Concept::Or(c, d) if lone && label.has(p) => Some(Conclusions::Two(label.with(c), label.with(d))),
+            Concept::Or(c, d) if lone && label.has(p) => Some(Conclusions::Two([c, c], [d, d])),
             _ => None,
         },
         5 => match (concepts.get(p), concepts.get(q)) {
             (Concept::Only(upper, c), Concept::Only(lower, d))
                 if s == 0 && c == d && label.has(p) && roles.is_below(lower, upper) =>
             {
-                Some(Conclusions::One(label.with(q)))
+                Some(Conclusions::One([q, q]))
             }
             _ => None,
         },
-        6 => (lone && concepts.axiom_label().has(p)).then(|| Conclusions::One(label.with(p))),
-        7 => (s == 0 && concepts.are_mates(p, q)).then(|| Conclusions::Two(label.with(p), label.with(q))),
+        6 => (lone && concepts.axiom_label().has(p)).then_some(Conclusions::One([p, p])),
+        7 => (s == 0 && concepts.are_mates(p, q)).then_some(Conclusions::Two([p, p], [q, q])),
         8 => {
             if !concepts.are_mates(p, q) {
                 return None;
@@ -61,7 +69,7 @@ pub fn conclude(roles: &Roles, concepts: &Concepts, step: Step, label: &Label) -
             let Concept::Only(role, inner) = concepts.get(s) else {
                 return None;
             };
-            (concepts.get(inner) == Concept::Exists(role.inverse(), q)).then(|| cut(label, step))
+            (concepts.get(inner) == Concept::Exists(role.inverse(), q)).then_some(cut(step))
         }
         9 => match concepts.get(p) {
             Concept::Only(role, _)
@@ -69,13 +77,13 @@ pub fn conclude(roles: &Roles, concepts: &Concepts, step: Step, label: &Label) -
                     && concepts.are_mates(p, q)
                     && concepts.get(s) == Concept::Only(role.inverse(), q) =>
             {
-                Some(cut(label, step))
+                Some(cut(step))
             }
             _ => None,
         },
         10 => match concepts.get(p) {
             Concept::Exists(role, inner) if lone && label.has(p) => {
-                let mut neighbour = concepts.axiom_label().with(inner);
+                let mut neighbour = concepts.axiom_label().with([inner, inner]);
                 for only in label.meet(concepts.only(role)).iter() {
                     if let Concept::Only(_, part) = concepts.get(only) {
                         neighbour.insert(part);
@@ -84,7 +92,7 @@ pub fn conclude(roles: &Roles, concepts: &Concepts, step: Step, label: &Label) -
                 for upper in roles.transitive_above(role) {
                     neighbour.join(&label.meet(concepts.only(upper)));
                 }
-                Some(Conclusions::One(neighbour))
+                Some(Conclusions::Own(neighbour))
             }
             _ => None,
         },
@@ -92,6 +100,6 @@ pub fn conclude(roles: &Roles, concepts: &Concepts, step: Step, label: &Label) -
     }
 }
 
-fn cut(label: &Label, step: Step) -> Conclusions {
-    Conclusions::Two(label.with(step.p), label.with(step.q).with(step.s))
+fn cut(Step { p, q, s, .. }: Step) -> Conclusions {
+    Conclusions::Two([p, p], [q, s])
 }
