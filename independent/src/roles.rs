@@ -51,6 +51,8 @@ pub struct Roles {
     axioms: Vec<RoleAxiom>,
     /// Bit s of `above[r]`: role r is below role s. Closed at every time.
     above: [u128; ROLES],
+    /// The same turned round: bit r of `below[s]`.
+    below: [u128; ROLES],
     /// Closed under inverses.
     transitive: u128,
 }
@@ -60,6 +62,7 @@ impl Default for Roles {
         Roles {
             axioms: Vec::new(),
             above: std::array::from_fn(|role| 1 << role),
+            below: std::array::from_fn(|role| 1 << role),
             transitive: 0,
         }
     }
@@ -82,14 +85,7 @@ impl Roles {
 
     /// The transitive roles that `role` is below.
     pub fn transitive_above(&self, role: Role) -> impl Iterator<Item = Role> + use<> {
-        let mut left = self.above[role.number()] & self.transitive;
-        std::iter::from_fn(move || {
-            (left != 0).then(|| {
-                let bit = left.trailing_zeros() as u8;
-                left &= left - 1;
-                Role(bit)
-            })
-        })
+        roles_of(self.above[role.number()] & self.transitive)
     }
 
     pub fn file(&mut self, axiom: RoleAxiom) -> Result<usize, Refusal> {
@@ -113,11 +109,22 @@ impl Roles {
         if self.is_below(lower, upper) {
             return;
         }
-        let more = self.above[upper.number()];
-        for row in &mut self.above {
-            if *row >> lower.0 & 1 == 1 {
-                *row |= more;
-            }
+        let (lowers, uppers) = (self.below[lower.number()], self.above[upper.number()]);
+        for role in roles_of(lowers) {
+            self.above[role.number()] |= uppers;
+        }
+        for role in roles_of(uppers) {
+            self.below[role.number()] |= lowers;
         }
     }
+}
+
+fn roles_of(mut set: u128) -> impl Iterator<Item = Role> {
+    std::iter::from_fn(move || {
+        (set != 0).then(|| {
+            let role = Role(set.trailing_zeros() as u8);
+            set &= set - 1;
+            role
+        })
+    })
 }

@@ -12,7 +12,10 @@ const FIRST: u16 = 2;
 const BLOCK: u16 = 8;
 const ROLE_NAMES: u16 = 4;
 
-const SERIES: [(&str, usize, usize, fn(u16) -> Vec<Written>); 11] = [
+/// The name, the least size, the greatest, and the records for a size.
+type Series = (&'static str, usize, usize, fn(u16) -> Vec<Written>);
+
+const SERIES: [Series; 11] = [
     ("nothing", 1, 1, |_| Vec::new()),
     ("roles", 4, 256, roles),
     ("concepts", 64, 1024, concepts),

@@ -291,10 +291,10 @@ fn damage_record(random: &mut Random, records: &mut Vec<Written>) {
             }
         }
         5 => {
-            if let Some(&line) = random.pick(&lines) {
-                if let Some(members) = records[line].fields.get_mut(6..) {
-                    members.reverse();
-                }
+            if let Some(&line) = random.pick(&lines)
+                && let Some(members) = records[line].fields.get_mut(6..)
+            {
+                members.reverse();
             }
         }
         6 => {

@@ -378,10 +378,10 @@ impl World {
 
     fn line_step(&mut self) {
         let rule = self.random.between(1, 10) as u16;
-        if self.missing() {
-            if let Some(loose) = self.line(rule, true) {
-                self.file(loose);
-            }
+        if self.missing()
+            && let Some(loose) = self.line(rule, true)
+        {
+            self.file(loose);
         }
         let Some(record) = self.line(rule, false) else {
             return;
