@@ -40,7 +40,8 @@ pub fn dossier(seed: u64, number: u64, wide: bool) -> Made {
                 axioms: random.below(6),
                 ..plan(&mut random, wide)
             };
-            world(random, size, with_models(plan))
+            let plan = with_models(&mut random, plan, wide);
+            world(random, size, plan)
         }
         2 => {
             let plan = Plan {
@@ -48,7 +49,8 @@ pub fn dossier(seed: u64, number: u64, wide: bool) -> Made {
                 about_models: random.one_of(&[0, 40]),
                 ..plan(&mut random, wide)
             };
-            world(random, size, with_models(plan))
+            let plan = with_models(&mut random, plan, wide);
+            world(random, size, plan)
         }
         3 => boundary(random, size),
         4 => full(random, size),
@@ -80,10 +82,31 @@ fn plan(random: &mut Random, wide: bool) -> Plan {
     }
 }
 
-fn with_models(plan: Plan) -> Plan {
-    Plan {
+/// At least one model; now and then one with more elements than a word has bits, or as large as can be had.
+fn with_models(random: &mut Random, plan: Plan, wide: bool) -> Plan {
+    let plan = Plan {
         models: plan.models.max(1),
         ..plan
+    };
+    match random.below(20) {
+        0 if wide => Plan {
+            names: random.between(1, 15),
+            role_axioms: random.below(2),
+            concepts: random.between(5, 50),
+            steps: random.between(2, 12),
+            elements: 256,
+            edges: random.between(500, 3800),
+            ..plan
+        },
+        1 => Plan {
+            names: random.between(1, 2),
+            role_axioms: random.below(2),
+            steps: random.between(4, 20),
+            elements: random.one_of(&[64, 65, 70, 128, 130]),
+            edges: random.between(20, 150),
+            ..plan
+        },
+        _ => plan,
     }
 }
 
@@ -99,7 +122,8 @@ fn boundary(mut random: Random, size: Size) -> Vec<u8> {
         about_models: 25,
         ..plan(&mut random, false)
     };
-    let mut world = World::new(random, size, with_models(plan)).make();
+    let plan = with_models(&mut random, plan, false);
+    let mut world = World::new(random, size, plan).make();
     let records = std::mem::take(&mut world.records);
     let mut random = world.random;
     let (mut concepts, mut lines, mut claims) = (0u16, 0u16, 0u16);
