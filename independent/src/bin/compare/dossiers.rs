@@ -88,7 +88,7 @@ fn with_models(random: &mut Random, plan: Plan, wide: bool) -> Plan {
         models: plan.models.max(1),
         ..plan
     };
-    match random.below(20) {
+    match random.below(12) {
         0 if wide => Plan {
             names: random.between(1, 15),
             role_axioms: random.below(2),
