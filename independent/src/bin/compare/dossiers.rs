@@ -273,6 +273,22 @@ fn full(mut random: Random, size: Size) -> Vec<u8> {
         let any = label(&mut random, 50);
         out.push(Written::new(8, any));
     }
+    // All concepts at once, and what may come behind the last of them.
+    for _ in 0..random.below(4) {
+        let mut all: Vec<u16> = (0..standing as u16).collect();
+        match random.below(6) {
+            0 => all.push(0),
+            1 => all.push(standing as u16 - 1),
+            2 => all.push(standing as u16),
+            3 => all.extend(0..standing as u16),
+            _ => {}
+        }
+        out.push(if random.percent(50) {
+            Written::new(8, all)
+        } else {
+            Written::line([1, 1, 0, 0, 0, 0], all)
+        });
+    }
     out.push(Written::new(10, [0, 0, 1, 0]));
     write_all(&out)
 }
@@ -347,13 +363,13 @@ fn damage_bytes(random: &mut Random, records: &[Written], bytes: &mut Vec<u8>) {
         return;
     }
     let at = random.below(bytes.len());
-    match random.below(6) {
+    let before = random.below(records.len().max(1));
+    let head: usize = records[..before].iter().map(|record| 4 + 2 * record.fields.len()).sum();
+    match random.below(9) {
         0 | 1 => bytes[at] ^= 1 << random.below(8),
         2 => bytes.truncate(at),
         3 => {
             // The length in the head of some record, so that what follows is read out of step or cut off.
-            let before = random.below(records.len().max(1));
-            let head: usize = records[..before].iter().map(|record| 4 + 2 * record.fields.len()).sum();
             if let Some(length) = bytes.get_mut(head) {
                 *length = length.wrapping_add(random.one_of(&[1, 2, 4, 254, 255, 128]));
             }
@@ -361,7 +377,15 @@ fn damage_bytes(random: &mut Random, records: &[Written], bytes: &mut Vec<u8>) {
         4 => {
             bytes.remove(at);
         }
-        _ => bytes.insert(at, random.next() as u8),
+        5 => bytes.insert(at, random.next() as u8),
+        // A whole record of any length, so that reading stays in step.
+        _ => {
+            let (kind, length) = (random.below(12) as u8, random.below(18) as u8);
+            let body = (0..length).map(|at| if at % 2 == 0 { random.below(4) as u8 } else { 0 });
+            let record: Vec<u8> = [length, 0, kind, 0].into_iter().chain(body).collect();
+            let head = head.min(bytes.len());
+            bytes.splice(head..head, record);
+        }
     }
 }
 
