@@ -457,6 +457,11 @@ impl World {
                     .filter(|&upper| self.docket.roles().is_below(lower, upper))
                     .collect();
                 let upper = if loose { self.role() } else { self.random.one_of(&above) };
+                let part = if loose && self.random.percent(40) {
+                    self.any_concept()?
+                } else {
+                    part
+                };
                 let p = self.need(Concept::Only(upper, part))?;
                 label.extend(less(&cited, &[q]));
                 label.insert(p);
@@ -469,8 +474,8 @@ impl World {
                 line([6, p, 0, 0, m, 0], label)
             }
             7..=9 => {
-                let (m, n) = (self.a_line()?, self.a_line()?);
-                let (one, other) = (self.label_of(m), self.label_of(n));
+                let m = self.a_line()?;
+                let one = self.label_of(m);
                 let mut role = self.role();
                 let p = if rule == 9 {
                     let transitive: Vec<Role> = (0..128)
@@ -500,6 +505,12 @@ impl World {
                     }
                     _ => self.need(Concept::Only(back, q))?,
                 };
+                let n = match self.random.below(3) {
+                    0 => self.a_line()?,
+                    1 if rule != 7 => self.a_line_with(&[q, s])?,
+                    _ => self.a_line_with(&[if rule == 7 { q } else { s }])?,
+                };
+                let other = self.label_of(n);
                 label.extend(less(&one, &[p]));
                 label.extend(if rule == 7 {
                     less(&other, &[q])
@@ -547,6 +558,25 @@ impl World {
         }
     }
 
+    /// A line that has these members, now and then a new one: few lines have what a step brings along, unless they are
+    /// made to.
+    fn a_line_with(&mut self, wanted: &[u16]) -> Option<u16> {
+        let having: Vec<usize> = (0..self.lines.len())
+            .filter(|&line| wanted.iter().all(|member| self.lines[line].contains(member)))
+            .collect();
+        match self.random.pick(&having) {
+            Some(&line) if self.random.percent(80) => Some(line as u16),
+            _ if self.random.percent(60) => {
+                let p = self.need(Concept::Bottom)?;
+                let mut label = self.some_members(2);
+                label.extend(wanted);
+                label.insert(p);
+                self.file(Written::line([1, p, 0, 0, 0, 0], label))
+            }
+            _ => self.a_line(),
+        }
+    }
+
     fn member_or_any(&mut self, label: &Members) -> Option<u16> {
         let members: Vec<u16> = label.iter().copied().collect();
         match self.random.pick(&members) {
@@ -559,7 +589,7 @@ impl World {
         let mut missed = line.clone();
         let fields = &mut missed.fields;
         let (count, lines) = (self.docket.concepts().count(), self.lines.len());
-        match self.random.below(14) {
+        match self.random.below(16) {
             0 => fields[0] = self.random.below(12) as u16,
             1 => fields[1] = self.random.below(count + 1) as u16,
             2 => fields[2] = self.random.below(count + 1) as u16,
@@ -568,6 +598,12 @@ impl World {
             5 => fields[5] = self.random.below(lines + 1) as u16,
             6 => fields.swap(1, 2),
             7 => fields.swap(4, 5),
+            // Without a principal.
+            12 | 13 => {
+                let principal = fields[self.random.one_of(&[1, 1, 2])];
+                let members = fields.split_off(6);
+                fields.extend(members.into_iter().filter(|&member| member != principal));
+            }
             8 => fields.push(count as u16),
             9 => fields.push(self.random.below(count) as u16),
             _ if fields.len() == 6 => fields.push(0),
