@@ -19,8 +19,8 @@ use Rattle.book.specs.declared.filing.Draft.{Draft}
 use Rattle.book.specs.Lines.{cited_lines, label_of}
 use Rattle.book.specs.Drafts.{line_of, draft_rows}
 use Rattle.docket.specs.declared.Docket.{Docket}
-use Rattle.docket.specs.declared.phase.Kind.{Kind}
-use Rattle.docket.specs.declared.phase.Kind.TheVariants.{RoleAxiom as RoleAxiomKind, Concept as ConceptKind, Pair as PairKind, Axiom as AxiomKind, Seal as SealKind, Line as LineKind, Claim as ClaimKind, Closing as ClosingKind}
+use Rattle.docket.specs.declared.phase.Subject.{Subject}
+use Rattle.docket.specs.declared.phase.Subject.TheVariants.{RoleAxiom as RoleAxiomSubject, Concept as ConceptSubject, Pair as PairSubject, Axiom as AxiomSubject, Seal as SealSubject, Line as LineSubject, Claim as ClaimSubject, Closing as ClosingSubject}
 use Rattle.docket.specs.Phases.{admits, after}
 use Rattle.docket.specs.Fields.{concept_rows, Written}
 use Rattle.docket.specs.Dockets.{count, lines}
@@ -47,17 +47,17 @@ pub data Call : Type 0 where
   -- a claim closed by a model, with working rows that were old before the call and are new after it
   close_inhabited : ℕ → Model → (old new : List ℕ) → Call
 
-abbrev pub kind_of : Call → Kind
-kind_of (inclusion r s) = RoleAxiomKind
-kind_of (transitivity r) = RoleAxiomKind
-kind_of (concept t a b) = ConceptKind
-kind_of (pair c d) = PairKind
-kind_of (general c) = AxiomKind
-kind_of seal = SealKind
-kind_of (line k f) = LineKind
-kind_of (claim ms) = ClaimKind
-kind_of (close_empty c n) = ClosingKind
-kind_of (close_inhabited c m old new) = ClosingKind
+abbrev pub subject_of : Call → Subject
+subject_of (inclusion r s) = RoleAxiomSubject
+subject_of (transitivity r) = RoleAxiomSubject
+subject_of (concept t a b) = ConceptSubject
+subject_of (pair c d) = PairSubject
+subject_of (general c) = AxiomSubject
+subject_of seal = SealSubject
+subject_of (line k f) = LineSubject
+subject_of (claim ms) = ClaimSubject
+subject_of (close_empty c n) = ClosingSubject
+subject_of (close_inhabited c m old new) = ClosingSubject
 
 -- what speaks against a call in its phase, in the order of the table of refusals
 abbrev pub rows : Call → Docket → List (Option Refusal)
@@ -94,7 +94,7 @@ rows (close_inhabited c m old new) d =
 
 -- all that speaks against a call: the phase comes first
 abbrev pub all_rows : Call → Docket → List (Option Refusal)
-all_rows c d = when (not (admits d.phase (kind_of c))) Phase ∷ rows c d
+all_rows c d = when (not (admits d.phase (subject_of c))) Phase ∷ rows c d
 
 -- the first refusal of a call, if any
 abbrev pub refusal : Call → Docket → Option Refusal
@@ -149,5 +149,5 @@ Refuses (close_inhabited c m old new) d x =
 -- THE CONTRACT of every call: if nothing speaks against it, it is done; else the first refusal is returned, and the docket,
 -- with its memory, is as it was. What becomes of the working rows, `Refuses` and `JudgedFor` say.
 abbrev pub Acts : Call → Docket → Result ℕ Refusal → Docket → Type 0
-Acts c d (Ok i) e = Clears c d × Done c d i e × (e.phase ≡ after d.phase (kind_of c))
+Acts c d (Ok i) e = Clears c d × Done c d i e × (e.phase ≡ after d.phase (subject_of c))
 Acts c d (Err x) e = Refuses c d x × (e ≡ d)

@@ -12,7 +12,7 @@ use Rattle.vocabulary.specs.Vocabularies.{concepts, New}
 use Rattle.docket.specs.declared.Docket.{Docket}
 use Rattle.docket.specs.declared.Unopened.{Unopened}
 use Rattle.docket.specs.declared.phase.Phase.TheVariants.{Open}
-use Rattle.docket.specs.declared.phase.Kind.{Kind}
+use Rattle.docket.specs.declared.phase.Subject.{Subject}
 use Rattle.docket.specs.Phases.{admits, after}
 
 -- how many concepts stand
@@ -46,9 +46,9 @@ Opened n m cs ls (Ok d) = (first (opening_rows n m (length cs.now) (length ls.no
 Opened n m cs ls (Err u) = (first (opening_rows n m (length cs.now) (length ls.now)) ≡ Some u.refusal) × (u.concepts ≡ cs) × (u.lines ≡ ls)
 
 -- d behind a call that its phase admits
-abbrev pub entered : Docket → Kind → Docket
+abbrev pub entered : Docket → Subject → Docket
 entered d k = record { phase = after d.phase k; vocabulary = d.vocabulary; book = d.book; claims = d.claims }
 
-abbrev pub Entered : Docket → Kind → Result (Unit {0}) Refusal → Docket → Type 0
+abbrev pub Entered : Docket → Subject → Result (Unit {0}) Refusal → Docket → Type 0
 Entered d k (Ok u) e = (admits d.phase k ≡ true) × (e ≡ entered d k)
 Entered d k (Err f) e = (admits d.phase k ≡ false) × (f ≡ Phase) × (e ≡ d)

@@ -2,15 +2,15 @@
 use Rattle.std.specs.Prelude.{Bool, true, false, not}
 use Rattle.docket.specs.declared.phase.Phase.{Phase}
 use Rattle.docket.specs.declared.phase.Phase.TheVariants.{Open, Sealed}
-use Rattle.docket.specs.declared.phase.Kind.{Kind}
-use Rattle.docket.specs.declared.phase.Kind.TheVariants.{RoleAxiom, Concept, Pair, Axiom, Seal, Line, Claim, Closing}
+use Rattle.docket.specs.declared.phase.Subject.{Subject}
+use Rattle.docket.specs.declared.phase.Subject.TheVariants.{RoleAxiom, Concept, Pair, Axiom, Seal, Line, Claim, Closing}
 
 abbrev pub is_open : Phase → Bool
 is_open Open = true
 is_open Sealed = false
 
 -- concepts and pairs are taken in either phase; axioms of either list and the seal only before sealing, lines, claims and closings only after it
-abbrev pub admits : Phase → Kind → Bool
+abbrev pub admits : Phase → Subject → Bool
 admits phase RoleAxiom = is_open phase
 admits phase Concept = true
 admits phase Pair = true
@@ -21,7 +21,7 @@ admits phase Claim = not (is_open phase)
 admits phase Closing = not (is_open phase)
 
 -- the phase behind a call that is taken
-abbrev pub after : Phase → Kind → Phase
+abbrev pub after : Phase → Subject → Phase
 after phase RoleAxiom = phase
 after phase Concept = phase
 after phase Pair = phase

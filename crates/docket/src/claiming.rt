@@ -4,7 +4,7 @@ ghost use Rattle.claims.specs.Claiming.{filed, tallied};
 ghost use Rattle.claims.specs.declared.Status.TheVariants.{Open, Empty, Inhabited};
 ghost use Rattle.docket.specs.Calls.{Acts, claim, close_empty, close_inhabited};
 
-use crate::phase::Kind;
+use crate::phase::Subject;
 use crate::{Answer, Docket};
 use book::members::{check_rising, check_standing};
 use claims::Status;
@@ -16,12 +16,12 @@ use refusals::Refusal;
 // The most claims.
 const MOST_CLAIMS: usize = 256;
 
-impl<'a> Docket<'a> {
+impl Docket<'_> {
     /// Files a claim of the label with these members.
     pub fn file_claim(&mut self, members: &[u8]) -> Answer
         ensures { Acts (claim (numbers members.now)) self.old result self.new }
     {
-        self.enter(Kind::Claim)?;
+        self.enter(Subject::Claim)?;
         check_standing(members, self.vocabulary.len(), 0)?;
         if self.claims.is_full() {
             return Err(Refusal::Full(MOST_CLAIMS));
@@ -36,7 +36,7 @@ impl<'a> Docket<'a> {
     pub fn close_empty(&mut self, claim: u16, line: u16) -> Answer
         ensures { Acts (close_empty claim line) self.old result self.new }
     {
-        self.enter(Kind::Closing)?;
+        self.enter(Subject::Closing)?;
         let claimed = self.claims.get(claim).ok_or(Refusal::Absent(0))?;
         let cited = self.book.get(line as usize).ok_or(Refusal::Absent(1))?;
         if !claimed.is_open() {
@@ -58,7 +58,7 @@ impl<'a> Docket<'a> {
     pub fn close_inhabited(&mut self, claim: u16, model: &Model, rows: &mut [u64]) -> Answer
         ensures { Acts (close_inhabited claim model.now rows.old rows.new) self.old result self.new }
     {
-        self.enter(Kind::Closing)?;
+        self.enter(Subject::Closing)?;
         if rows.len() / 4 < self.vocabulary.len() {
             return Err(Refusal::Range(4 + (model.marks.len() + model.edges.len()) / 2));
         }

@@ -29,7 +29,7 @@ fn write_row(memory: &mut [u64], row: &[u64; 16])
     memory[..WORDS].copy_from_slice(row);
 }
 
-impl<'a> Docket<'a> {
+impl Docket<'_> {
     // What the question checks before it looks at the step.
     fn check_inquiry<B: Bank>(&self, bank: &B, asked: &Inquiry, words: usize) -> Result<u8, Refusal>
         ensures { Inquired (B.Bank.calculus bank.now) self.now asked.now words result }

@@ -1,10 +1,9 @@
 ghost use Rattle.docket.specs.Calls.{Acts, inclusion, transitivity, concept, pair, general, seal, line};
-ghost use Rattle.docket.specs.Dockets.{Entered};
 ghost use Rattle.docket.specs.Questions.{PairingIsRight, MeansTheSame};
 ghost use Rattle.docket.specs.Runs.{Reached};
 
 use crate::fields::{check_role, read_concept};
-use crate::phase::{Kind, Phase};
+use crate::phase::Subject;
 use crate::{Answer, Docket};
 use book::filing::{Draft, check};
 use book::members::check_stands;
@@ -15,30 +14,12 @@ use refusals::Refusal;
 // The most axioms of either list.
 const MOST_AXIOMS: usize = 256;
 
-impl<'a> Docket<'a> {
-    // Whether a call of this kind is taken in this phase. A seal that is taken seals the docket.
-    pub(crate) fn enter(&mut self, kind: Kind) -> Result<(), Refusal>
-        ensures { Entered self.old kind result self.new }
-    {
-        // by a match on both, so that every pair of phase and kind is seen to be listed
-        match (self.phase, kind) {
-            (_, Kind::Concept | Kind::Pair) => Ok(()),
-            (Phase::Open, Kind::RoleAxiom | Kind::Axiom) => Ok(()),
-            (Phase::Open, Kind::Seal) => {
-                self.phase = Phase::Sealed;
-                Ok(())
-            }
-            (Phase::Sealed, Kind::Line | Kind::Claim | Kind::Closing) => Ok(()),
-            (Phase::Sealed, Kind::RoleAxiom | Kind::Axiom | Kind::Seal)
-            | (Phase::Open, Kind::Line | Kind::Claim | Kind::Closing) => Err(Refusal::Phase),
-        }
-    }
-
+impl Docket<'_> {
     /// Files that role `r` is below role `s`.
     pub fn file_inclusion(&mut self, r: u16, s: u16) -> Answer
         ensures { Acts (inclusion r s) self.old result self.new }
     {
-        self.enter(Kind::RoleAxiom)?;
+        self.enter(Subject::RoleAxiom)?;
         check_role(r, 0)?;
         check_role(s, 1)?;
         self.vocabulary
@@ -50,7 +31,7 @@ impl<'a> Docket<'a> {
     pub fn file_transitivity(&mut self, r: u16) -> Answer
         ensures { Acts (transitivity r) self.old result self.new }
     {
-        self.enter(Kind::RoleAxiom)?;
+        self.enter(Subject::RoleAxiom)?;
         check_role(r, 0)?;
         self.vocabulary
             .file_role_axiom(RoleAxiom::Transitivity(r))
@@ -62,7 +43,7 @@ impl<'a> Docket<'a> {
         ensures acts { Acts (concept tag a b) self.old result self.new }
         ensures stays { Reached self.old → MeansTheSame self.old.vocabulary self.new.vocabulary }
     {
-        self.enter(Kind::Concept)?;
+        self.enter(Subject::Concept)?;
         let k = read_concept(self.vocabulary.len(), tag, a, b)?;
         let room = self.vocabulary.room();
         self.vocabulary
@@ -75,7 +56,7 @@ impl<'a> Docket<'a> {
         ensures acts { Acts (pair c d) self.old result self.new }
         ensures right { PairingIsRight self.old c d result }
     {
-        self.enter(Kind::Pair)?;
+        self.enter(Subject::Pair)?;
         check_stands(c, self.vocabulary.len(), 0)?;
         check_stands(d, self.vocabulary.len(), 1)?;
         // by a match: the clause on what pairing means is proved arm by arm; with `ok_or` it was not
@@ -89,7 +70,7 @@ impl<'a> Docket<'a> {
     pub fn file_axiom(&mut self, c: u16) -> Answer
         ensures { Acts (general c) self.old result self.new }
     {
-        self.enter(Kind::Axiom)?;
+        self.enter(Subject::Axiom)?;
         check_stands(c, self.vocabulary.len(), 0)?;
         self.vocabulary
             .file_axiom(c)
@@ -100,7 +81,7 @@ impl<'a> Docket<'a> {
     pub fn seal(&mut self) -> Answer
         ensures { Acts seal self.old result self.new }
     {
-        self.enter(Kind::Seal)?;
+        self.enter(Subject::Seal)?;
         Ok(0)
     }
 
@@ -108,7 +89,7 @@ impl<'a> Docket<'a> {
     pub fn file_line<B: Bank>(&mut self, bank: &B, draft: &Draft) -> Answer
         ensures { Acts (line (B.Bank.calculus bank.now) draft.now) self.old result self.new }
     {
-        self.enter(Kind::Line)?;
+        self.enter(Subject::Line)?;
         let line = check(
             bank,
             &self.vocabulary,

@@ -1,3 +1,8 @@
+ghost use Rattle.docket.specs.Dockets.{Entered};
+
+use crate::Docket;
+use refusals::Refusal;
+
 /// A docket is open until it is sealed.
 #[derive(Clone, Copy, Debug, PartialEq, Eq)]
 pub enum Phase {
@@ -7,7 +12,7 @@ pub enum Phase {
 
 /// What a call is about, as far as the phase is concerned.
 #[derive(Clone, Copy, Debug, PartialEq, Eq)]
-pub enum Kind {
+pub enum Subject {
     RoleAxiom,
     Concept,
     Pair,
@@ -16,4 +21,26 @@ pub enum Kind {
     Line,
     Claim,
     Closing,
+}
+
+impl Docket<'_> {
+    // Whether a call about this is taken in the docket's phase. A seal that is taken seals the docket.
+    pub(crate) fn enter(&mut self, subject: Subject) -> Result<(), Refusal>
+        ensures { Entered self.old subject result self.new }
+    {
+        // by a match on both, so that every pair of phase and subject is seen to be listed
+        match (self.phase, subject) {
+            (_, Subject::Concept | Subject::Pair) => Ok(()),
+            (Phase::Open, Subject::RoleAxiom | Subject::Axiom) => Ok(()),
+            (Phase::Open, Subject::Seal) => {
+                self.phase = Phase::Sealed;
+                Ok(())
+            }
+            (Phase::Sealed, Subject::Line | Subject::Claim | Subject::Closing) => Ok(()),
+            (Phase::Sealed, Subject::RoleAxiom | Subject::Axiom | Subject::Seal)
+            | (Phase::Open, Subject::Line | Subject::Claim | Subject::Closing) => Err(
+                Refusal::Phase,
+            ),
+        }
+    }
 }

@@ -20,7 +20,7 @@ use refusals::Refusal;
 // What an answer means is promised of a docket that is reached. That a docket is reached is no ghost field of it: such a
 // field has to be a proposition, a run of calls is none, and from "there is some run" the meaning would not follow as it is.
 
-impl<'a> Docket<'a> {
+impl Docket<'_> {
     // Whether the docket is sealed, as the questions on roles and on conclusions ask.
     pub(crate) fn check_sealed(&self) -> Result<(), Refusal>
         ensures { Passed (sealed_rows self.now) result }

@@ -16,7 +16,7 @@ use Rattle.book.specs.Drafts.{members, label, line_of, conclusion, Admitted}
 use Rattle.book.proofs.Admitting.{no_row}
 use Rattle.docket.specs.declared.Docket.{Docket}
 use Rattle.docket.specs.declared.phase.Phase.{Phase as DocketPhase}
-use Rattle.docket.specs.declared.phase.Kind.TheVariants.{Line as LineKind}
+use Rattle.docket.specs.declared.phase.Subject.TheVariants.{Line as LineSubject}
 use Rattle.docket.specs.Phases.{admits}
 use Rattle.docket.specs.Dockets.{lines}
 use Rattle.docket.specs.Calls.{line, all_rows, rows, refusal, Acts}
@@ -102,7 +102,7 @@ module _ (k : Calculus) (law : LawfulCalculus k) (proper : Proper k) where
   -- an admitted draft is taken
   admitted_refusal : (d : Docket) (f : Draft) → Good d → Admitted k d.vocabulary (lines d) (room d.book) f → refusal (line k f) d ≡ None
   admitted_refusal d f good a = cleared (all_rows (line k f) d) (
-    none_when (not (admits d.phase LineKind)) Phase (ap (λ (p : DocketPhase). not (admits p LineKind)) good.sealed),
+    none_when (not (admits d.phase LineSubject)) Phase (ap (λ (p : DocketPhase). not (admits p LineSubject)) good.sealed),
     clear (rows (line k f) d) (no_row k d.vocabulary (lines d) (room d.book) f a),
   )
 
