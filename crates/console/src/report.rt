@@ -1,4 +1,5 @@
 ghost use Rattle.docket.specs.Runs.{Reached};
+ghost use Rattle.facts.specs.Claims.{ClaimsAreRight};
 ghost use Rattle.facts.specs.Facts.{ThreeFacts};
 
 use anyhow::Context;
@@ -16,6 +17,7 @@ pub fn report(
 ) -> anyhow::Result<()>
     ensures reached { Reached docket.old → Reached docket.new }
     ensures facts { ThreeFacts }
+    ensures claims { ClaimsAreRight }
 {
     let count = take_file(docket, &house(), file, rows, replies)
         .ok()
