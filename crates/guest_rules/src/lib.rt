@@ -3,7 +3,11 @@
 
 #![tactic(auto)]
 
+#[cfg(test)]
+mod answers;
+#[cfg(test)]
+mod desk;
 pub mod forgetting;
 #[cfg(test)]
-mod lending;
+mod lines;
 pub mod neighbour_cases;
