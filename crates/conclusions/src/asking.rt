@@ -255,14 +255,16 @@ fn says_of(
     says_by_number(rt, rule, &at, said);
 }
 
-fn conclude_in(
+fn compared_in(
     rt: &impl Abort,
     heap: Global,
     turn: Turn,
     steps: &[(Step, Conclusions)],
+    idle: &[Step],
 ) -> Result<(), Fail> {
     let mut memory = [Concept::Top; 1024];
-    let mut lines = [Line::default(); 8];
+    // more than the steps that close a line, so that no line is refused for want of room
+    let mut lines = [Line::default(); 16];
     let mut docket = opened(&mut memory, &mut lines)?;
     file_with(rt, &mut docket, turn);
     assert_eq!(rt; told(docket.seal()), Ok(0));
@@ -273,41 +275,22 @@ fn conclude_in(
         writes(rt, heap, &mut docket, *step, conclusions)?;
         says_of(rt, &vocabulary, *step, Some(conclusions));
     }
-    Ok(())
-}
-
-// Each of the steps applies and has these conclusions, whichever way the roles are turned.
-pub fn all_conclude(
-    rt: &impl Abort,
-    heap: Global,
-    steps: &[(Step, Conclusions)],
-) -> Result<(), Fail> {
-    for turn in TURNS {
-        conclude_in(rt, heap, turn, steps)?;
-    }
-    Ok(())
-}
-
-fn idle_in(rt: &impl Abort, heap: Global, turn: Turn, steps: &[Step]) -> Result<(), Fail> {
-    let mut memory = [Concept::Top; 1024];
-    let mut lines = [Line::default(); 1];
-    let mut docket = opened(&mut memory, &mut lines)?;
-    file_with(rt, &mut docket, turn);
-    assert_eq!(rt; told(docket.seal()), Ok(0));
-    let mut memory = [Concept::Top; 1024];
-    let mut vocabulary = Vocabulary::over(&mut memory, 1024);
-    write_down(rt, &mut vocabulary, turn);
-    for step in steps {
+    for step in idle {
         refuses(rt, heap, &mut docket, *step)?;
         says_of(rt, &vocabulary, *step, None);
     }
     Ok(())
 }
 
-// None of the steps applies.
-pub fn all_idle(rt: &impl Abort, heap: Global, steps: &[Step]) -> Result<(), Fail> {
+// The steps apply and have these conclusions, and the idle ones don't apply, whichever way the roles are turned.
+pub fn compared(
+    rt: &impl Abort,
+    heap: Global,
+    steps: &[(Step, Conclusions)],
+    idle: &[Step],
+) -> Result<(), Fail> {
     for turn in TURNS {
-        idle_in(rt, heap, turn, steps)?;
+        compared_in(rt, heap, turn, steps, idle)?;
     }
     Ok(())
 }

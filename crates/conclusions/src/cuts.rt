@@ -1,4 +1,4 @@
-use crate::asking::{Conclusions, Step, all_conclude, all_idle};
+use crate::asking::{Conclusions, Step, compared};
 use std::test::Fail;
 
 // The rules that split on two mates: 7 to 9.
@@ -70,11 +70,6 @@ const IDLE: [Step; 27] = [
 ];
 
 #[test]
-fn apply(rt: HostRuntime) -> Result<(), Fail> {
-    all_conclude(&rt, rt.alloc(), &STEPS)
-}
-
-#[test]
-fn idle(rt: HostRuntime) -> Result<(), Fail> {
-    all_idle(&rt, rt.alloc(), &IDLE)
+fn steps(rt: HostRuntime) -> Result<(), Fail> {
+    compared(&rt, rt.alloc(), &STEPS, &IDLE)
 }

@@ -3,14 +3,14 @@
 // The conclusions of the ten rules, asked of a docket and of the rules themselves, and compared with tables that were written by hand.
 // Nothing else is in this crate.
 #[cfg(test)]
-mod adding;
-#[cfg(test)]
 mod asking;
 #[cfg(test)]
-mod cutting;
+mod cuts;
 #[cfg(test)]
 mod filed;
 #[cfg(test)]
-mod following;
+mod local;
 #[cfg(test)]
-mod refusing;
+mod refused;
+#[cfg(test)]
+mod roles;

@@ -1,4 +1,4 @@
-use crate::asking::{Conclusions, Step, all_conclude, all_idle};
+use crate::asking::{Conclusions, Step, compared};
 use std::test::Fail;
 
 // The rules that follow a role: 5 and 10.
@@ -140,20 +140,10 @@ const NO_NEIGHBOUR: [Step; 7] = [
 
 #[test]
 fn narrower(rt: HostRuntime) -> Result<(), Fail> {
-    all_conclude(&rt, rt.alloc(), &NARROWER)
-}
-
-#[test]
-fn not_narrower(rt: HostRuntime) -> Result<(), Fail> {
-    all_idle(&rt, rt.alloc(), &NOT_NARROWER)
+    compared(&rt, rt.alloc(), &NARROWER, &NOT_NARROWER)
 }
 
 #[test]
 fn neighbour(rt: HostRuntime) -> Result<(), Fail> {
-    all_conclude(&rt, rt.alloc(), &NEIGHBOUR)
-}
-
-#[test]
-fn no_neighbour(rt: HostRuntime) -> Result<(), Fail> {
-    all_idle(&rt, rt.alloc(), &NO_NEIGHBOUR)
+    compared(&rt, rt.alloc(), &NEIGHBOUR, &NO_NEIGHBOUR)
 }
