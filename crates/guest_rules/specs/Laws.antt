@@ -1,4 +1,5 @@
--- The rules beside the house's are lawful.
+-- The rules beside the house's are lawful. That is shown here and not in proofs/, with no tactic: the source of a rule cites its law, and
+-- of its own crate it can cite specs/ alone.
 use Rattle.std.proofs.Common.{◌≡◌, ℕ, ◌<◌, ◌≤◌, Bool, true, cond, ◌&&◌, eqb, ltb, List, length, refl, subst, ⊎_elim}
 use Rattle.std.proofs.lemmas.Bool.{and_parts, eqb-true, ltb-true, leb-true}
 use Rattle.bits.specs.Bits.{has}
