@@ -1,9 +1,10 @@
 use crate::small::{LINES, VOCABULARY};
 use book::line::Line;
-use desk::{Case, Said, first_surprise, opened_for, say};
+use desk::step::Step::{self, Record};
+use desk::{Room, Said, opened, play};
 use docket::Docket;
 use logic::concept::Concept;
-use std::process::Abort;
+use std::alloc::Global;
 use std::test::Fail;
 
 // A field of a record that is wrong: its place, the number there, and the refusal. The kind has place 0.
@@ -15,7 +16,7 @@ type Fault = (usize, u16, Said<usize>);
 // Rule 2 cites no line.
 const CLASH: [u16; 10] = [7, 2, 0, 1, 0, 0, 0, 0, 1, 3];
 
-const CLASH_FAULTS: [Fault; 15] = [
+static CLASH_FAULTS: [Fault; 15] = [
     (1, 0, Err((3, 0))),
     (1, 11, Err((3, 0))),
     (1, 65535, Err((3, 0))),
@@ -37,7 +38,7 @@ const CLASH_FAULTS: [Fault; 15] = [
 // Rule 10 cites one.
 const NEIGHBOUR: [u16; 10] = [7, 10, 3, 0, 0, 1, 0, 0, 3, 5];
 
-const NEIGHBOUR_FAULTS: [Fault; 13] = [
+static NEIGHBOUR_FAULTS: [Fault; 13] = [
     (1, 11, Err((3, 0))),
     (6, 1, Err((3, 5))),
     (6, 65535, Err((3, 5))),
@@ -57,7 +58,7 @@ const NEIGHBOUR_FAULTS: [Fault; 13] = [
 // Rule 7 cites two: {0, 3, 5} is within {0, 2, 3, 4, 5}, and {2, 4} within {1, 2, 3, 4, 5}.
 const CUT: [u16; 11] = [7, 7, 0, 1, 0, 2, 1, 2, 3, 4, 5];
 
-const CUT_FAULTS: [Fault; 14] = [
+static CUT_FAULTS: [Fault; 14] = [
     (1, 11, Err((3, 0))),
     (2, 6, Err((4, 1))),
     (3, 6, Err((4, 2))),
@@ -76,7 +77,7 @@ const CUT_FAULTS: [Fault; 14] = [
 ];
 
 // How the docket stands: before the seal, with a line free, or with none.
-#[derive(Clone, Copy, Debug, PartialEq, Eq)]
+#[derive(Clone, Copy)]
 enum State {
     Open,
     Room,
@@ -92,54 +93,65 @@ fn said_in(state: State, said: Said<usize>) -> Said<usize> {
     }
 }
 
-// The record with the later of two faults, and then with both: the earlier one answers.
+// Writes a fault into the record.
+fn put(record: &mut [u16], (place, wrong, _): Fault) {
+    if let Some(field) = record.get_mut(place) {
+        *field = wrong;
+    }
+}
+
+// The record with each two of the faults: the earlier one answers.
 fn two_faults(
-    rt: &(impl Abort + AllocGlobal),
+    alloc: Global,
     docket: &mut Docket,
     state: State,
-    record: &mut [u16],
+    record: &[u16],
     faults: &[Fault],
 ) -> Result<(), Fail> {
-    for (i, (place, wrong, said)) in faults.iter().enumerate() {
-        for (later, also_wrong, _) in faults.iter().skip(i) {
-            assert!(rt; *place < record.len() && *later < record.len());
-            let (right, also_right) = (record[*place], record[*later]);
-            record[*later] = *also_wrong;
-            record[*place] = *wrong;
-            assert_eq!(rt;
-                say(rt.alloc(), docket, record)?,
-                said_in(state, *said),
-                "{record:?}, {state:?}"
-            );
-            record[*later] = also_right;
-            record[*place] = right;
+    for (i, earlier) in faults.iter().enumerate() {
+        for later in faults.iter().skip(i) {
+            let mut wrong = record.to_vec(alloc)?;
+            put(wrong.as_mut_slice(), *later);
+            put(wrong.as_mut_slice(), *earlier);
+            let said = said_in(state, earlier.2);
+            play(alloc, docket, &[Record(wrong.as_slice(), said)])?;
         }
     }
     Ok(())
 }
 
-fn all_faults(
-    rt: &(impl Abort + AllocGlobal),
-    docket: &mut Docket,
-    state: State,
-) -> Result<(), Fail> {
-    two_faults(rt, docket, state, &mut CLASH, &CLASH_FAULTS)?;
-    two_faults(rt, docket, state, &mut NEIGHBOUR, &NEIGHBOUR_FAULTS)?;
-    two_faults(rt, docket, state, &mut CUT, &CUT_FAULTS)
+fn all_faults(alloc: Global, docket: &mut Docket, state: State) -> Result<(), Fail> {
+    two_faults(alloc, docket, state, &CLASH, &CLASH_FAULTS)?;
+    two_faults(alloc, docket, state, &NEIGHBOUR, &NEIGHBOUR_FAULTS)?;
+    two_faults(alloc, docket, state, &CUT, &CUT_FAULTS)
+}
+
+// Each of the three lines, without a fault, where there is room for it.
+static RIGHT: [Step; 3] = [
+    Record(&CLASH, Ok(3)),
+    Record(&NEIGHBOUR, Ok(4)),
+    Record(&CUT, Ok(5)),
+];
+
+// Three lines stand; there is room for so many more.
+fn with_room(alloc: Global, more: usize, state: State, end: &[Step]) -> Result<(), Fail> {
+    let mut concepts = [Concept::Top; 6];
+    let mut lines = [Line::default(); 6];
+    let room = Room {
+        concepts: 6,
+        lines: 3 + more,
+    };
+    let mut docket = opened(room, &mut concepts, &mut lines)?;
+    play(alloc, &mut docket, &VOCABULARY[..8])?;
+    all_faults(alloc, &mut docket, State::Open)?;
+    play(alloc, &mut docket, &VOCABULARY[8..])?;
+    play(alloc, &mut docket, &LINES[..3])?;
+    all_faults(alloc, &mut docket, state)?;
+    play(alloc, &mut docket, end)
 }
 
 #[test]
 fn first_fault_answers(rt: HostRuntime) -> Result<(), Fail> {
-    let (unsealed, seal) = VOCABULARY.split_at(8);
-    for (capacity, state) in [(4, State::Room), (3, State::Full)] {
-        let mut memory = [Concept::Top; 6];
-        let mut lines = [Line::default(); 4];
-        let mut docket = opened_for(6, capacity, &mut memory, &mut lines)?;
-        assert_eq!(rt; first_surprise(rt.alloc(), &mut docket, unsealed)?, None);
-        all_faults(&rt, &mut docket, State::Open)?;
-        assert_eq!(rt; first_surprise(rt.alloc(), &mut docket, seal)?, None);
-        assert_eq!(rt; first_surprise(rt.alloc(), &mut docket, &LINES[..3])?, None);
-        all_faults(&rt, &mut docket, state)?;
-    }
-    Ok(())
+    with_room(rt.alloc(), 3, State::Room, &RIGHT)?;
+    with_room(rt.alloc(), 0, State::Full, &[])
 }

@@ -1,15 +1,20 @@
 #![tactic(auto)]
 
-// What the trials share: a docket over memory of theirs, records as the pages write them, and answers as numbers. Nothing here
-// promises more than that it is safe: it is used by tests alone, which compare what comes out.
+// What the trials share: calls and questions with the answers that are expected, played on a docket one by one. Nothing here
+// promises more than that it is safe: it is for tests alone, and a test that finds something else fails.
+
+pub mod notation;
+pub mod step;
 
 use book::line::Line;
-use docket::{Answer, Docket};
-use intake::{Reply, take_file};
+use docket::Docket;
+use intake::Reply;
 use logic::concept::Concept;
 use refusals::Refusal;
-use rules::table::house;
-use std::alloc::{AllocError, Global};
+use std::alloc::Global;
+use std::fmt::{Debug, Display};
+use std::test::Fail;
+use step::Step;
 
 // What a call said: a value, or a refusal by its number and its place.
 pub type Said<T> = Result<T, (u16, usize)>;
@@ -23,93 +28,54 @@ pub fn replied(reply: &Reply) -> (u16, Said<usize>) {
     (reply.kind, told(reply.answer))
 }
 
-// A docket of these capacities. It borrows its memory, so each test makes that in lines of its own.
-pub fn opened_for<'a>(
-    concept_capacity: usize,
-    line_capacity: usize,
+// Fails if an answer is not the one that is expected.
+pub fn expect<T: PartialEq + Debug + Drop, D: Display + Drop>(
+    what: D,
+    said: T,
+    expected: T,
+) -> Result<(), Fail> {
+    if said == expected {
+        Ok(())
+    } else {
+        Err(Fail::new(format_args!("{what}: {said:?}, not {expected:?}")))
+    }
+}
+
+// How many concepts and lines a docket can have.
+#[derive(Clone, Copy)]
+pub struct Room {
+    pub concepts: usize,
+    pub lines: usize,
+}
+
+// A docket of this room. It borrows its memory, which may be longer.
+pub fn opened<'a>(
+    room: Room,
     concepts: &'a mut [Concept],
     lines: &'a mut [Line],
 ) -> Result<Docket<'a>, Refusal> {
     // no `map_err`: the borrow checker does not cover a method that takes an error with several `&mut`
-    match Docket::open(concept_capacity, line_capacity, concepts, lines) {
+    match Docket::open(room.concepts, room.lines, concepts, lines) {
         Ok(docket) => Ok(docket),
         Err(unopened) => Err(unopened.refusal),
     }
 }
 
-// A docket whose capacities are those of the memory.
-pub fn opened<'a>(
-    concepts: &'a mut [Concept],
-    lines: &'a mut [Line],
-) -> Result<Docket<'a>, Refusal> {
-    opened_for(concepts.len(), lines.len(), concepts, lines)
-}
-
-// Marks the places for replies that nothing was written to.
-pub const UNTOUCHED: Reply = Reply {
-    kind: 999,
-    answer: Ok(999),
-};
-
-// A file, with the ten rules and rows for a few concepts.
-pub fn hand_over(docket: &mut Docket, file: &[u8], replies: &mut [Reply]) -> Answer {
-    let mut rows = [0; 128];
-    take_file(docket, &house(), file, &mut rows, replies)
-}
-
-// Two bytes for each number, the low one first.
-pub fn bytes_of(alloc: Global, numbers: &[u16]) -> Result<Vec<u8>, AllocError> {
-    let mut bytes = Vec::new(alloc);
-    for number in numbers {
-        bytes.extend_from_slice(&number.to_le_bytes())?;
-    }
-    Ok(bytes)
-}
-
-// Puts a record behind a file. It is written as on the pages, its kind first and then its fields.
-pub fn put_record(file: &mut Vec<u8>, record: &[u16]) -> Result<(), AllocError> {
-    let [kind, fields @ ..] = record else {
-        return Ok(());
-    };
-    let size = 2 * fields.len().min(32767) as u16;
-    file.extend_from_slice(&size.to_le_bytes())?;
-    file.extend_from_slice(&kind.to_le_bytes())?;
-    for field in fields {
-        file.extend_from_slice(&field.to_le_bytes())?;
+// Takes the steps one after the other, and fails at the first that is answered otherwise than it expects.
+pub fn play(alloc: Global, docket: &mut Docket, steps: &[Step]) -> Result<(), Fail> {
+    for step in steps {
+        step.take(alloc, docket)?;
     }
     Ok(())
 }
 
-// What is said to one record, as a file of its own.
-pub fn say(alloc: Global, docket: &mut Docket, record: &[u16]) -> Result<Said<usize>, AllocError> {
-    let mut file = Vec::new(alloc);
-    put_record(&mut file, record)?;
-    let mut replies = [UNTOUCHED];
-    let counted = hand_over(docket, file.as_slice(), &mut replies);
-    Ok(told(counted.and(replies[0].answer)))
-}
-
-// A record, and what is said to it.
-pub type Case<'t> = (&'t [u16], Said<usize>);
-
-// What is said to the record with this index in a table, where the table has something else.
-#[derive(Clone, Copy, Debug, PartialEq, Eq)]
-pub struct Surprise {
-    pub at: usize,
-    pub said: Said<usize>,
-}
-
-// The first answer that is not as the table has it. What stands behind it is not handed over.
-pub fn first_surprise(
-    alloc: Global,
-    docket: &mut Docket,
-    cases: &[Case],
-) -> Result<Option<Surprise>, AllocError> {
-    for (at, (record, expected)) in cases.iter().enumerate() {
-        let said = say(alloc, docket, record)?;
-        if said != *expected {
-            return Ok(Some(Surprise { at, said }));
-        }
+// Plays all tables on one new docket.
+pub fn play_all(alloc: Global, room: Room, tables: &[&[Step]]) -> Result<(), Fail> {
+    let mut concepts = vec![in alloc; Concept::Top; room.concepts]?;
+    let mut lines = vec![in alloc; Line::default(); room.lines]?;
+    let mut docket = opened(room, concepts.as_mut_slice(), lines.as_mut_slice())?;
+    for steps in tables {
+        play(alloc, &mut docket, steps)?;
     }
-    Ok(None)
+    Ok(())
 }
