@@ -79,15 +79,15 @@ static CUT_FAULTS: [Fault; 14] = [
 // How the docket stands: before the seal, with a line free, or with none.
 #[derive(Clone, Copy)]
 enum State {
-    Open,
-    Room,
+    Unsealed,
+    Free,
     Full,
 }
 
 // What is said in this state to a record that is refused like this where there is room.
 fn said_in(state: State, said: Said<usize>) -> Said<usize> {
     match (state, said) {
-        (State::Open, _) => Err((2, 0)),
+        (State::Unsealed, _) => Err((2, 0)),
         (State::Full, Ok(_) | Err((6..=15, _))) => Err((5, 3)),
         _ => said,
     }
@@ -133,17 +133,17 @@ static RIGHT: [Step; 3] = [
     Record(&CUT, Ok(5)),
 ];
 
-// Three lines stand; there is room for so many more.
-fn with_room(alloc: Global, more: usize, state: State, end: &[Step]) -> Result<(), Fail> {
+// Three lines stand, where there is room for so many.
+fn with_room(alloc: Global, capacity: usize, state: State, end: &[Step]) -> Result<(), Fail> {
     let mut concepts = [Concept::Top; 6];
     let mut lines = [Line::default(); 6];
     let room = Room {
         concepts: 6,
-        lines: 3 + more,
+        lines: capacity,
     };
     let mut docket = opened(room, &mut concepts, &mut lines)?;
     play(alloc, &mut docket, &VOCABULARY[..8])?;
-    all_faults(alloc, &mut docket, State::Open)?;
+    all_faults(alloc, &mut docket, State::Unsealed)?;
     play(alloc, &mut docket, &VOCABULARY[8..])?;
     play(alloc, &mut docket, &LINES[..3])?;
     all_faults(alloc, &mut docket, state)?;
@@ -152,6 +152,6 @@ fn with_room(alloc: Global, more: usize, state: State, end: &[Step]) -> Result<(
 
 #[test]
 fn first_fault_answers(rt: HostRuntime) -> Result<(), Fail> {
-    with_room(rt.alloc(), 3, State::Room, &RIGHT)?;
-    with_room(rt.alloc(), 0, State::Full, &[])
+    with_room(rt.alloc(), 6, State::Free, &RIGHT)?;
+    with_room(rt.alloc(), 3, State::Full, &[])
 }

@@ -138,29 +138,40 @@ fn claims(rt: HostRuntime) -> Result<(), Fail> {
     play(rt.alloc(), &mut docket, &CLAIMS_FULL)
 }
 
-// A docket of this capacity takes no concept more. What is out of range or doesn't stand is seen first, and the last
-// concept stands.
+// What is out of range is seen before it is asked whether there is room.
+static OUT_OF_RANGE: [Step; 3] = [
+    Record(&[3, 8, 0, 0], Err((3, 0))),
+    Record(&[3, 2, 1024, 0], Err((3, 1))),
+    Record(&[3, 0, 0, 1], Err((3, 2))),
+];
+
+// And what doesn't stand. The last concept stands.
+fn last_stands(alloc: Global, docket: &mut Docket, capacity: u16) -> Result<(), Fail> {
+    for (record, place) in [
+        ([3, 4, capacity, 0], 1),
+        ([3, 4, 0, capacity], 2),
+        ([3, 6, 0, capacity], 2),
+    ] {
+        play(alloc, docket, &[Record(&record, Err((4, place)))])?;
+    }
+    play(alloc, docket, &[Mate(capacity.saturating_sub(1), Ok(None))])?;
+    play(alloc, docket, &[Mate(capacity, Err((4, 0)))])
+}
+
+// A docket of this capacity takes no concept more.
 fn is_full(alloc: Global, docket: &mut Docket, capacity: u16) -> Result<(), Fail> {
     let full = Err((5, capacity as usize));
     let last = capacity.saturating_sub(1);
-    play(
-        alloc,
-        docket,
-        &[
-            Record(&[3, 2, 0, 0], full),
-            Record(&[3, 0, 0, 0], full),
-            Record(&[3, 4, 0, last], full),
-            Record(&[3, 7, 127, last], full),
-            Record(&[3, 8, 0, 0], Err((3, 0))),
-            Record(&[3, 2, 1024, 0], Err((3, 1))),
-            Record(&[3, 0, 0, 1], Err((3, 2))),
-            Record(&[3, 4, capacity, 0], Err((4, 1))),
-            Record(&[3, 4, 0, capacity], Err((4, 2))),
-            Record(&[3, 6, 0, capacity], Err((4, 2))),
-            Mate(last, Ok(None)),
-            Mate(capacity, Err((4, 0))),
-        ],
-    )
+    for record in [
+        [3, 2, 0, 0],
+        [3, 0, 0, 0],
+        [3, 4, 0, last],
+        [3, 7, 127, last],
+    ] {
+        play(alloc, docket, &[Record(&record, full)])?;
+    }
+    play(alloc, docket, &OUT_OF_RANGE)?;
+    last_stands(alloc, docket, capacity)
 }
 
 // In both phases.

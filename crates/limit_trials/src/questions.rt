@@ -1,5 +1,14 @@
+use book::line::Line;
+use calculus::rule::Principals;
+use desk::notation::{bytes_of, row_of};
 use desk::step::Step::{self, Concludes, FirstLine, Record};
-use desk::{Room, play_all};
+use desk::{Room, Said, expect, opened, play, play_all, told};
+use docket::Docket;
+use docket::conclusion::Inquiry;
+use logic::concept::Concept;
+use rules::table::house;
+use std::alloc::Global;
+use std::array;
 use std::test::Fail;
 
 const ROOM: Room = Room {
@@ -81,4 +90,62 @@ fn questions(rt: HostRuntime) -> Result<(), Fail> {
         ROOM,
         &[&DOCKET, &FIRST_LINES, &CONCLUSIONS, &REFUSED, &FIRST_LINES],
     )
+}
+
+// A question for a conclusion of {0}: by a rule, with p alone, its index, and the words of memory.
+type Question = (u16, u16, u16, usize);
+
+// Sixteen words are written, however few concepts stand, and none behind them; with fewer words it is refused.
+static QUESTIONS: [(Question, Said<()>); 9] = [
+    ((6, 6, 0, 16), Ok(())),
+    ((6, 6, 0, 17), Ok(())),
+    ((6, 6, 0, 18), Ok(())),
+    ((6, 6, 0, 15), Err((3, 6))),
+    ((6, 6, 0, 0), Err((3, 6))),
+    // what is seen before that, and what is seen behind it
+    ((11, 6, 0, 15), Err((3, 0))),
+    ((6, 6, 1, 15), Err((3, 4))),
+    ((6, 7, 0, 15), Err((3, 6))),
+    ((6, 7, 0, 16), Err((4, 1))),
+];
+
+// What the memory holds before a question.
+const OLD: u64 = 0x5555_5555_5555_5555;
+
+// Asks, and looks at all of the memory.
+fn ask(
+    alloc: Global,
+    docket: &Docket,
+    (rule, p, index, words): Question,
+    said: Said<()>,
+) -> Result<(), Fail> {
+    let members = bytes_of(alloc, &[0])?;
+    let inquiry = Inquiry {
+        rule,
+        on: Principals { p, q: 0, s: 0 },
+        index,
+        members: members.as_slice(),
+    };
+    let mut memory = [OLD; 18];
+    let answer = docket.conclusion(&house(), &inquiry, &mut memory[..words.min(18)]);
+    expect("answer", told(answer), said)?;
+    let row = row_of(&[0, 6]);
+    let written = array::from_fn(|w| if said.is_ok() && w < 16 { row[w] } else { OLD });
+    expect("memory", memory, written)
+}
+
+fn ask_all(alloc: Global, docket: &Docket, questions: &[(Question, Said<()>)]) -> Result<(), Fail> {
+    for (question, said) in questions {
+        ask(alloc, docket, *question, *said)?;
+    }
+    Ok(())
+}
+
+#[test]
+fn memory_for_a_conclusion(rt: HostRuntime) -> Result<(), Fail> {
+    let mut concepts = [Concept::Top; 8];
+    let mut lines = [Line::default(); 4];
+    let mut docket = opened(ROOM, &mut concepts, &mut lines)?;
+    play(rt.alloc(), &mut docket, &DOCKET)?;
+    ask_all(rt.alloc(), &docket, &QUESTIONS)
 }

@@ -186,8 +186,13 @@ fn chains_of_every_other_link(rt: HostRuntime) -> Result<(), Fail> {
 
 // Every third name is transitive, by the role or by its inverse; an inclusion below a transitive role, and one above.
 fn every_third(alloc: Global, docket: &mut Docket) -> Result<(), Fail> {
-    for (i, name) in (0..64u16).step_by(3).enumerate() {
-        play(alloc, docket, &[Record(&[2, 2 * name + name % 2], Ok(i))])?;
+    for i in 0..22u16 {
+        let name = 3 * i;
+        play(
+            alloc,
+            docket,
+            &[Record(&[2, 2 * name + name % 2], Ok(i as usize))],
+        )?;
     }
     play(
         alloc,
