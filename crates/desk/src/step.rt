@@ -35,7 +35,7 @@ pub fn hand_over(docket: &mut Docket, file: &[u8], replies: &mut [Reply]) -> Ans
 }
 
 // What is said to one record.
-pub fn say(alloc: Global, docket: &mut Docket, record: &[u16]) -> Result<Said<usize>, AllocError> {
+fn say(alloc: Global, docket: &mut Docket, record: &[u16]) -> Result<Said<usize>, AllocError> {
     let mut file = Vec::new(alloc);
     put_record(&mut file, record)?;
     let mut replies = [UNTOUCHED];

@@ -53,14 +53,14 @@ fn read_past(file: &[u8], records: &[Row], at: usize, damage: Damage) -> Result<
     for (record, reply) in before.iter().zip(&replies) {
         as_ever(record, reply, damage)?;
     }
-    for ((from, _, _, _), reply) in behind.iter().zip(replies.iter().skip(at)).take(1) {
-        let (size, kind) = damage;
-        expect(
-            format_args!("kind {kind} of {size}"),
-            replied(reply),
-            (kind, Err((MALFORMED, *from))),
-        )?;
-    }
+    let (from, _, _, _) = records.get(at).ok_or("no such record")?;
+    let reply = replies.get(at).ok_or("no such reply")?;
+    let (size, kind) = damage;
+    expect(
+        format_args!("kind {kind} of {size}"),
+        replied(reply),
+        (kind, Err((MALFORMED, *from))),
+    )?;
     for (record, reply) in behind.iter().zip(replies.iter().skip(at).skip(1)) {
         as_ever(record, reply, damage)?;
     }

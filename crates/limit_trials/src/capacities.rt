@@ -1,5 +1,5 @@
 use book::line::Line;
-use desk::step::Step::{self, Mate, Record};
+use desk::step::Step::{self, Mate, Record, Tally};
 use desk::{Room, opened, play};
 use docket::Docket;
 use logic::concept::Concept;
@@ -114,7 +114,7 @@ static CLAIMS_FULL: [Step; 10] = [
     Record(&[9, 255, 0], Err((4, 1))),
     Record(&[10, 256, 0, 1, 0], Err((4, 0))),
     Record(&[10, 255, 0, 1, 1, 0, 1], Ok(0)),
-    Step::Tally(255, 0, 1),
+    Tally(255, 0, 1),
 ];
 
 static TWO_NAMES: [Step; 4] = [
