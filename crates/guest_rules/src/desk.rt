@@ -11,14 +11,14 @@ use std::alloc::Global;
 use std::process::Abort;
 use std::test::Fail;
 
-// What a call said: a value, or a refusal by its number and its place.
+/// What a call said: a value, or a refusal by its number and its place.
 pub type Said<T> = Result<T, (u16, usize)>;
 
 pub fn told<T: Copy>(answer: Result<T, Refusal>) -> Said<T> {
     answer.map_err(|refusal| refusal.returned())
 }
 
-// The members of a label, two bytes for each.
+/// The members of a label, two bytes for each.
 pub fn bytes(heap: Global, members: &[u16]) -> Result<Vec<u8>, Fail> {
     let mut all = Vec::new(heap);
     for c in members {
@@ -27,12 +27,12 @@ pub fn bytes(heap: Global, members: &[u16]) -> Result<Vec<u8>, Fail> {
     Ok(all)
 }
 
-// Two banks side by side.
+/// Two banks side by side.
 pub fn beside<L: Bank, R: Bank>(left: L, right: R) -> Pair<L, R> {
     Pair { left, right }
 }
 
-// A bank of the one rule of number N, which forgets the concepts from this one upward.
+/// A bank of the one rule of number N, which forgets the concepts from this one upward.
 pub fn forgetting<const N: u16>(from: u16) -> Single<ForgettingRule<N>> {
     Single {
         rule: ForgettingRule { from },
@@ -42,7 +42,7 @@ pub fn forgetting<const N: u16>(from: u16) -> Single<ForgettingRule<N>> {
 // The guests, rules 11 and 12.
 type Guests = Pair<Single<NeighbourCasesRule>, Single<ForgettingRule<12>>>;
 
-// The house with the guests beside it.
+/// The house with the guests beside it.
 pub fn guested() -> Pair<House, Guests> {
     let cases = Single {
         rule: NeighbourCasesRule,
@@ -50,7 +50,7 @@ pub fn guested() -> Pair<House, Guests> {
     beside(house(), beside(cases, forgetting(1)))
 }
 
-// Which bank a call is lent.
+/// Which bank a call is lent.
 #[derive(Clone, Copy, Debug)]
 pub enum Lent {
     House,
@@ -89,7 +89,7 @@ pub fn opened<'a>(memory: &'a mut [Concept], lines: &'a mut [Line]) -> Result<Do
     }
 }
 
-// A docket over which questions are asked.
+/// A docket over which questions are asked.
 pub fn prepared<'a>(
     rt: &impl Abort,
     memory: &'a mut [Concept],

@@ -7,8 +7,8 @@ use calculus::rule::Rule;
 use labels::rows::cut_to;
 use schemas::conclusion::nothing;
 
-// A rule of the number N: it names no concept. Conclusion: the label without the concepts from `from` upward. The house's rules have
-// nothing to choose; what this one says depends on its value, and its conclusion has less than the label and nothing else.
+/// A rule of the number N: it names no concept. Conclusion: the label without the concepts from `from` upward. The house's rules have
+/// nothing to choose; what this one says depends on its value, and its conclusion has less than the label and nothing else.
 #[derive(Drop)]
 pub struct ForgettingRule<const N: u16> {
     pub from: u16,

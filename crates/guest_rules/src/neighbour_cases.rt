@@ -34,8 +34,8 @@ fn alone(at: &Premise, c: u16) -> [u64; 16]
     cut_to(&row, at.vocabulary.len())
 }
 
-// Rule 11: p is in the label, "some R C", where C is "D or E". Conclusions, each of a neighbour by R: D; E. The house splits on
-// what the element itself has, and its only conclusion of a neighbour doesn't split.
+/// Rule 11: p is in the label, "some R C", where C is "D or E". Conclusions, each of a neighbour by R: D; E. The house splits on
+/// what the element itself has, and its only conclusion of a neighbour doesn't split.
 #[derive(Default, Drop)]
 pub struct NeighbourCasesRule;
 

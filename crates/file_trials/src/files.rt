@@ -1,27 +1,29 @@
-use crate::desk::{Said, hand_over, opened, replied, told};
 use book::line::Line;
+use desk::step::{UNTOUCHED, hand_over};
+use desk::{Room, Said, expect, opened, replied, told};
 use intake::Reply;
 use logic::concept::Concept;
 use records::reader::count;
-use std::process::Abort;
 use std::test::Fail;
 
 pub const MALFORMED: u16 = 1;
 
-// Marks the places for replies that nothing was written to.
-pub const UNTOUCHED: Reply = Reply {
-    kind: 999,
-    answer: Ok(999),
+pub const ROOM: Room = Room {
+    concepts: 3,
+    lines: 1,
 };
 
 // Nothing was written to this place, in turn `n` of the test.
-pub fn is_untouched(rt: &impl Abort, n: usize, reply: &Reply) {
-    assert_eq!(rt; replied(reply), (999, Ok(999)), "turn {n}");
+pub fn is_untouched(n: usize, reply: &Reply) -> Result<(), Fail> {
+    expect(
+        format_args!("turn {n}"),
+        replied(reply),
+        replied(&UNTOUCHED),
+    )
 }
 
 // The records of the table below, one to a line.
-pub fn file() -> [u8; 110] {
-    *b"\
+pub static FILE: &[u8] = b"\
         \x04\0\x01\0\0\0\x02\0\
         \x02\0\x02\0\x02\0\
         \x06\0\x03\0\x02\0\x07\0\0\0\
@@ -34,14 +36,13 @@ pub fn file() -> [u8; 110] {
         \x04\0\x09\0\0\0\0\0\
         \x08\0\x0a\0\0\0\0\0\x01\0\0\0\
         \x06\0\x03\0\0\0\0\0\0\0\
-        \x02\0\x05\0\0\0"
-}
+        \x02\0\x05\0\0\0";
 
 // Where a record begins and ends, its kind, and what is answered to it.
 pub type Row = (usize, usize, u16, Said<usize>);
 
 // A record of each kind and a few more.
-pub const RECORDS: [Row; 13] = [
+pub static RECORDS: [Row; 13] = [
     // role 0 below role 2; role 2 transitive
     (0, 8, 1, Ok(0)),
     (8, 14, 2, Ok(1)),
@@ -65,11 +66,10 @@ pub const RECORDS: [Row; 13] = [
 
 // The reply to a record, where the file ends at place `n`: one that is whole is answered as ever, and one that is cut is
 // malformed. The kind is in the third and fourth bytes.
-fn as_cut(rt: &impl Abort, n: usize, record: &Row, reply: &Reply) {
+fn as_cut(n: usize, record: &Row, reply: &Reply) -> Result<(), Fail> {
     let (from, end, kind, said) = *record;
     if from >= n {
-        is_untouched(rt, n, reply);
-        return;
+        return is_untouched(n, reply);
     }
     let malformed = Err((MALFORMED, from));
     let as_said = if end <= n {
@@ -79,38 +79,37 @@ fn as_cut(rt: &impl Abort, n: usize, record: &Row, reply: &Reply) {
     } else {
         (kind, malformed)
     };
-    assert_eq!(rt;
+    expect(
+        format_args!("record at {from}, cut to {n} bytes"),
         replied(reply),
         as_said,
-        "record at {from}, cut to {n} bytes"
-    );
+    )
 }
 
-fn cut_to(rt: &impl Abort, n: usize) -> Result<(), Fail> {
-    assert!(rt; n <= 110);
-    let mut memory = [Concept::Top; 3];
+// The file cut to so many bytes.
+fn cut_to(n: usize, whole: &[u8], records: &[Row]) -> Result<(), Fail> {
+    let mut concepts = [Concept::Top; 3];
     let mut lines = [Line::default(); 1];
-    let mut docket = opened(&mut memory, &mut lines)?;
+    let mut docket = opened(ROOM, &mut concepts, &mut lines)?;
     let mut replies = [UNTOUCHED; 14];
-    let whole = file();
-    let begun = RECORDS.iter().filter(|(from, _, _, _)| *from < n).count();
-    assert_eq!(rt; count(&whole[0..n]), begun, "cut to {n} bytes");
-    assert_eq!(rt;
-        told(hand_over(&mut docket, &whole[0..n], &mut replies)),
+    let file = &whole[..n.min(whole.len())];
+    let begun = records.iter().filter(|(from, _, _, _)| *from < n).count();
+    expect("count", count(file), begun)?;
+    expect(
+        "taken",
+        told(hand_over(&mut docket, file, &mut replies)),
         Ok(begun),
-        "cut to {n} bytes"
-    );
-    for (record, reply) in RECORDS.iter().zip(&replies) {
-        as_cut(rt, n, record, reply);
+    )?;
+    for (record, reply) in records.iter().zip(&replies) {
+        as_cut(n, record, reply)?;
     }
-    is_untouched(rt, n, &replies[13]);
-    Ok(())
+    is_untouched(n, &replies[13])
 }
 
 #[test]
-fn cut_at_every_byte(rt: HostRuntime) -> Result<(), Fail> {
+fn cut_at_every_byte() -> Result<(), Fail> {
     for n in 0..111 {
-        cut_to(&rt, n)?;
+        cut_to(n, FILE, &RECORDS)?;
     }
     Ok(())
 }
