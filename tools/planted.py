@@ -71,6 +71,7 @@ def wiped(text):
     return ''.join(out)
 
 
+# the types that have methods of their own, beside those of traits
 PLAIN = set()
 
 
