@@ -12,4 +12,4 @@ mod lists;
 #[cfg(test)]
 mod order;
 #[cfg(test)]
-mod rows;
+mod working_rows;
