@@ -6,6 +6,8 @@ use calculus::rule::{Principals, Rule};
 use cut_rules::cut::CutRule;
 use cut_rules::inverse_cut::InverseCutRule;
 use cut_rules::transitive_cut::TransitiveCutRule;
+use desk::notation::bytes_of;
+use desk::{Said, told};
 use docket::Docket;
 use docket::conclusion::Inquiry;
 use local_rules::bottom::BottomRule;
@@ -14,7 +16,6 @@ use local_rules::conjunction::ConjunctionRule;
 use local_rules::disjunction::DisjunctionRule;
 use local_rules::general::GeneralRule;
 use logic::concept::Concept;
-use refusals::Refusal;
 use role_rules::narrower::NarrowerRule;
 use role_rules::neighbour::NeighbourRule;
 use rules::table::house;
@@ -23,27 +24,11 @@ use std::process::Abort;
 use std::test::Fail;
 use vocabulary::Vocabulary;
 
-// What a call said: a value, or a refusal by its number and its place.
-pub type Said<T> = Result<T, (u16, usize)>;
-
-pub fn told<T: Copy>(answer: Result<T, Refusal>) -> Said<T> {
-    answer.map_err(|refusal| refusal.returned())
-}
-
 // A step: the rule, the concepts p, q and s that it names, and the label that it is taken at.
 pub type Step = (u16, [u16; 3], &'static [u16]);
 
 // The concepts of each of its conclusions, in their order.
 pub type Conclusions = &'static [&'static [u16]];
-
-// The members of a label, two bytes for each.
-pub fn bytes(heap: Global, members: &[u16]) -> Result<Vec<u8>, Fail> {
-    let mut all = Vec::new(heap);
-    for c in members {
-        all.extend_from_slice(&c.to_le_bytes())?;
-    }
-    Ok(all)
-}
 
 // Memory for a row and two words behind it, and what they hold before.
 pub const WORDS: usize = 18;
@@ -190,7 +175,7 @@ fn writes(
     (rule, on, label): Step,
     conclusions: Conclusions,
 ) -> Result<(), Fail> {
-    let members = bytes(heap, label)?;
+    let members = bytes_of(heap, label)?;
     for (i, listed) in conclusions.iter().enumerate() {
         assert!(rt; i < 2);
         let mut memory = BEFORE;
@@ -216,7 +201,7 @@ fn refuses(
     docket: &mut Docket,
     (rule, on, label): Step,
 ) -> Result<(), Fail> {
-    let members = bytes(heap, label)?;
+    let members = bytes_of(heap, label)?;
     assert!(rt; rule >= 1 && rule <= 10);
     let conclusions = CONCLUSIONS[rule as usize - 1];
     let refused = (8, rule as usize);

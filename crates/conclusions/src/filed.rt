@@ -1,4 +1,4 @@
-use crate::asking::told;
+use desk::told;
 use docket::Docket;
 use logic::concept::Concept;
 use logic::role::RoleAxiom;

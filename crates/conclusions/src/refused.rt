@@ -1,6 +1,8 @@
-use crate::asking::{BEFORE, CONCLUSIONS, Said, WORDS, ask, bytes, opened, told, written};
+use crate::asking::{BEFORE, CONCLUSIONS, WORDS, ask, opened, written};
 use crate::filed::{COUNT, Turn, file_with};
 use book::line::Line;
+use desk::notation::bytes_of;
+use desk::{Said, told};
 use docket::Docket;
 use logic::concept::Concept;
 use std::alloc::Global;
@@ -66,7 +68,7 @@ fn answered(
     docket: &Docket,
     (rule, on, index, label, words, said): Question,
 ) -> Result<(), Fail> {
-    let members = bytes(heap, label)?;
+    let members = bytes_of(heap, label)?;
     let mut memory = BEFORE;
     assert!(rt; words <= WORDS);
     let answer = ask(docket, (rule, on), index, &members, &mut memory[..words]);
@@ -124,7 +126,7 @@ fn past_the_last(rt: HostRuntime) -> Result<(), Fail> {
     file_with(&rt, &mut docket, Turn::Straight);
     assert_eq!(rt; told(docket.seal()), Ok(0));
     for (rule, ((on, label), conclusions)) in (1..).zip(STEPS.iter().zip(CONCLUSIONS)) {
-        let members = bytes(rt.alloc(), label)?;
+        let members = bytes_of(rt.alloc(), label)?;
         let mut memory = BEFORE;
         for index in conclusions..=65535 {
             let said = ask(&docket, (rule, *on), index, &members, &mut memory);
@@ -151,7 +153,7 @@ fn whole_label(rt: HostRuntime) -> Result<(), Fail> {
     for c in 0..COUNT {
         all.push(c)?;
     }
-    let members = bytes(rt.alloc(), &all)?;
+    let members = bytes_of(rt.alloc(), &all)?;
     let full = written(&rt, &all);
     for rule in 3..10u16 {
         let (on, _) = STEPS[rule as usize - 1];

@@ -1,8 +1,10 @@
-use crate::desk::{Said, beside, bytes, forgetting, guested, prepared, told};
+use crate::banks::{beside, forgetting, guested, prepared};
 use crate::forgetting::ForgettingRule;
 use book::line::Line;
 use calculus::bank::{Bank, Single};
 use calculus::rule::Principals;
+use desk::notation::bytes_of;
+use desk::{Said, told};
 use docket::Docket;
 use docket::conclusion::Inquiry;
 use logic::concept::Concept;
@@ -35,7 +37,7 @@ fn answers<B: Bank>(
     questions: &[Question],
 ) -> Result<(), Fail> {
     for (rule, p, index, label, said) in questions {
-        let members = bytes(heap, label)?;
+        let members = bytes_of(heap, label)?;
         let asked = Inquiry {
             rule: *rule,
             on: Principals { p: *p, q: 0, s: 0 },

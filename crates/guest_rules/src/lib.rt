@@ -6,7 +6,7 @@
 #[cfg(test)]
 mod answers;
 #[cfg(test)]
-mod desk;
+mod banks;
 pub mod forgetting;
 #[cfg(test)]
 mod lines;

@@ -1,7 +1,9 @@
-use crate::desk::{Lent, Said, beside, bytes, forgetting, guested, opened, prepared, told};
+use crate::banks::{Lent, beside, forgetting, guested, opened, prepared};
 use book::filing::Draft;
 use book::line::Line;
 use calculus::rule::Principals;
+use desk::notation::bytes_of;
+use desk::{Said, told};
 use docket::Docket;
 use intake::{Reply, take_file};
 use logic::concept::Concept;
@@ -55,7 +57,7 @@ fn as_said(
     filing: &Filing,
 ) -> Result<(), Fail> {
     let (lent, rule, [p, q, s], [m, n], label, said) = *filing;
-    let members = bytes(heap, label)?;
+    let members = bytes_of(heap, label)?;
     let draft = Draft {
         rule,
         on: Principals { p, q, s },

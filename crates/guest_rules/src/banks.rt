@@ -2,30 +2,15 @@ use crate::forgetting::ForgettingRule;
 use crate::neighbour_cases::NeighbourCasesRule;
 use book::line::Line;
 use calculus::bank::{Bank, Pair, Single};
+use desk::told;
 use docket::Docket;
 use logic::concept::Concept;
-use refusals::Refusal;
 use rules::house::House;
 use rules::table::house;
-use std::alloc::Global;
 use std::process::Abort;
 use std::test::Fail;
 
-/// What a call said: a value, or a refusal by its number and its place.
-pub type Said<T> = Result<T, (u16, usize)>;
-
-pub fn told<T: Copy>(answer: Result<T, Refusal>) -> Said<T> {
-    answer.map_err(|refusal| refusal.returned())
-}
-
-/// The members of a label, two bytes for each.
-pub fn bytes(heap: Global, members: &[u16]) -> Result<Vec<u8>, Fail> {
-    let mut all = Vec::new(heap);
-    for c in members {
-        all.extend_from_slice(&c.to_le_bytes())?;
-    }
-    Ok(all)
-}
+// Banks that have the guests, and the docket that they are lent to.
 
 /// Two banks side by side.
 pub fn beside<L: Bank, R: Bank>(left: L, right: R) -> Pair<L, R> {
