@@ -24,8 +24,9 @@ FIELDS = [('p', 'q'), ('q', 's'), ('s', 'p'), ('m', 'n'), ('n', 'm'), ('left', '
           ('size', 'point'), ('point', 'size'), ('marks', 'edges'), ('edges', 'marks'), ('element', 'name'), ('first', 'second'),
           ('second', 'first'), ('concepts', 'lines'), ('rule', 'index')]
 CASES = {'Refusal': ['Phase', 'Range(0)', 'Absent(0)', 'Full(256)', 'Order(0)', 'Unpaired'], 'Status': ['Open', 'Empty', 'Inhabited'],
-         'Phase': ['Open', 'Sealed'], 'Kind': ['RoleAxiom', 'Concept', 'Pair', 'Axiom', 'Seal', 'Line', 'Claim', 'Closing'],
-         'Use': ['Unused', 'Name', 'Role', 'Concept']}
+         'Phase': ['Open', 'Sealed'], 'Subject': ['RoleAxiom', 'Concept', 'Pair', 'Axiom', 'Seal', 'Line', 'Claim', 'Closing'],
+         'Kind': ['Inclusion', 'Transitivity', 'Concept', 'Pair', 'Axiom', 'Seal', 'Line', 'Claim', 'CloseEmpty', 'CloseInhabited'],
+         'Use': ['Unused', 'Name', 'Role', 'Concept'], 'Unfit': ['Refers', 'Full']}
 
 
 def wiped(text):
@@ -122,8 +123,8 @@ def functions(path, crate, code):
         yield Function(path, '::'.join([prefix] + owner + [m.group(1)]), start + 1, i, params)
 
 
-def bugs(code, f):
-    """(start, end, new) for each bug in a body."""
+def bugs(code, text, f):
+    """(start, end, new) for each bug in a body; the code has its strings and comments blanked out."""
     body, a = code[f.start:f.end], f.start
     for old, new in OPERATORS:
         for m in re.finditer(re.escape(old), body):
@@ -152,9 +153,9 @@ def bugs(code, f):
     lines = list(re.finditer(r'(?m)^([ \t]*)([^\n{}]*;)\n', body))
     for x, y in zip(lines, lines[1:]):
         if x.end() == y.start() and x.group(1) == y.group(1):
-            yield a + x.start(), a + y.end(), y.group(0) + x.group(0)
+            yield a + x.start(), a + y.end(), text[a + y.start():a + y.end()] + text[a + x.start():a + x.end()]
     for m in re.finditer(r'\bif (?!let\b)([^{}\n]+) \{', body):
-        yield a + m.start(1), a + m.end(1), '!(' + m.group(1) + ')'
+        yield a + m.start(1), a + m.end(1), '!(' + text[a + m.start(1):a + m.end(1)] + ')'
     for m in re.finditer(r'\b(break|continue);', body):
         yield a + m.start(), a + m.end(), 'continue;' if m.group(1) == 'break' else 'break;'
     for old, new in METHODS:
@@ -284,7 +285,7 @@ def main():
 
         for f in fs:
             seen, all_ = set(), []
-            for bug in bugs(code[f.path], f):
+            for bug in bugs(code[f.path], texts[f.path], f):
                 w = words(f, bug)
                 if w not in seen and w.split('\t')[1] != w.split('\t')[3]:
                     seen.add(w)

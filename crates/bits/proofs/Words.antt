@@ -1,12 +1,13 @@
 -- Bits of words that are made of others, and the lowest bit of a word.
-use Rattle.std.proofs.Common.{◌≡◌, ℕ, zero, suc, ◌+◌, ◌-◌, ◌*◌, ◌/◌, ◌%◌, ◌^◌, ◌<◌, ◌≤◌, true, false, ◌&&◌, eqb, ltb, leb, sym, refl, ap, ◌∙◌, subst, ⊎_elim, mul_assoc, pow-suc, div-one, arith, pow_mono}
+use Rattle.std.proofs.Common.{◌≡◌, ℕ, zero, suc, ◌+◌, ◌-◌, ◌*◌, ◌/◌, ◌%◌, ◌^◌, ◌<◌, ◌≤◌, Bool, true, false, not, ◌&&◌, eqb, ltb, leb, sym, refl, ap, ◌∙◌, subst, ⊎_elim, mul_assoc, pow-suc, div-one, arith, pow_mono}
 use mathlib.Core.Bool.{xor}
-use lib.Bits.{bit_xor, differ, xor_step, xor_shr, shifted_even}
+use lib.Bits.{bit_and, bit_xor, differ, xor_step, xor_shr, shifted_even}
 use lib.Count.{count_trailing_zeros, under}
 use lib.Pow.{ones_split, ones_lt}
 use Rattle.std.proofs.lemmas.Nat.{pow-add, pow_pos, shl-shr, shr-shr, div_below, div-mul-add}
 use Rattle.std.proofs.lemmas.Bool.{cases_lt, lt-ltb, le-ltb, le-leb, lt-leb}
 use Rattle.bits.specs.Bits.{bit}
+use Rattle.bits.proofs.BitFacts.{bit-bit_and}
 
 -- the bits in which two words differ
 
@@ -25,6 +26,17 @@ bit-bit_xor x y j = ap (λ n. eqb n 1) low ∙ one_differs (x / 2 ^ j % 2) (y / 
   where
     low : bit_xor x y / 2 ^ j % 2 ≡ differ (x / 2 ^ j % 2) (y / 2 ^ j % 2) % 2
     low = rw (xor_shr x y j, xor_step (x / 2 ^ j) (y / 2 ^ j)) (omega arith)
+
+-- the bits of one word that are not in another
+
+difference : (a b : Bool) → xor a (a && b) ≡ (a && not b)
+unfolding xor
+difference true true = refl
+difference true false = refl
+difference false b = refl
+
+pub bit_without : (x y j : ℕ) → bit (bit_xor x (bit_and x y)) j ≡ (bit x j && not (bit y j))
+bit_without x y j = bit-bit_xor x (bit_and x y) j ∙ ap (xor (bit x j)) (bit-bit_and x y j) ∙ difference (bit x j) (bit y j)
 
 -- the k low bits
 

@@ -80,11 +80,6 @@ late_rows k v ls room f =
 abbrev pub draft_rows : Calculus → Vocabulary → List Line → ℕ → Draft → List (Option Refusal)
 draft_rows k v ls room f = range_rows k f ++ (absent_rows k v ls f ++ late_rows k v ls room f)
 
--- no row refuses, or the first that does
-abbrev pub Passed : List (Option Refusal) → Result (Unit {0}) Refusal → Type 0
-Passed rows (Ok u) = first rows ≡ None
-Passed rows (Err x) = first rows ≡ Some x
-
 -- the line that a draft becomes, or the first row that refuses
 abbrev pub Checked : Calculus → Vocabulary → List Line → ℕ → Draft → Result Line Refusal → Type 0
 Checked k v ls room f (Ok l) = (first (draft_rows k v ls room f) ≡ None) × (l ≡ line_of k f)

@@ -20,12 +20,12 @@ abbrev pub citing : ℕ → ℕ → ℕ → Cited
 citing count m n = cond (count == 0) Nothing (cond (count == 1) (One m) (Two m n))
 
 -- a line with an empty label, where there is none
-abbrev pub blank : Line
-blank = record { step = record { rule = 0; on = record { p = 0; q = 0; s = 0 }; cited = Nothing }; label = replicate 16 0 }
+abbrev pub blank_line : Line
+blank_line = record { step = record { rule = 0; on = record { p = 0; q = 0; s = 0 }; cited = Nothing }; label = replicate 16 0 }
 
 -- the label of line k; the empty one if there is no such line
 abbrev pub label_of : List Line → ℕ → List ℕ
-label_of ls k = (slice_index_or ls k blank).label
+label_of ls k = (slice_index_or ls k blank_line).label
 
 abbrev pub is_none : Option ℕ → Bool
 is_none None = true
@@ -36,5 +36,5 @@ abbrev pub lies_within : List ℕ → List ℕ → Bool
 lies_within y x = is_none (outside y x)
 
 -- the first line whose label lies within row x
-abbrev pub first_within : List Line → List ℕ → Option ℕ
-first_within ls x = least (length ls) (λ k. lies_within (label_of ls k) x)
+abbrev pub first_line_within : List Line → List ℕ → Option ℕ
+first_line_within ls x = least (length ls) (λ k. lies_within (label_of ls k) x)

@@ -1,15 +1,17 @@
 ghost use Rattle.std.specs.Prelude.{◌≡◌};
 ghost use Rattle.book.specs.Lines.{label_of};
-ghost use Rattle.book.specs.Drafts.{Checked, RowsAreRight, Passed, range_rows, absent_rows, unfit, least_outside, conclusion};
+ghost use Rattle.book.specs.Drafts.{Checked, RowsAreRight, range_rows, absent_rows, unfit, least_outside, conclusion};
+ghost use Rattle.refusals.specs.Checks.{Passed};
 
 use crate::line::{Cited, Line, Step};
-use crate::members::{check_principals, check_rising, check_standing, check_stands};
+use crate::members::{check_principals, check_rising, check_standing};
 use calculus::bank::Bank;
 use calculus::premise::Premise;
 use calculus::rule::Principals;
 use labels::members::row_of;
 use labels::rows::first_outside;
 use refusals::Refusal;
+use refusals::checks::check_stands;
 use vocabulary::Vocabulary;
 
 /// A line as it is handed over: a step, the lines that it cites (0 where its rule cites none), and the members of its

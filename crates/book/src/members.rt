@@ -1,24 +1,14 @@
 ghost use Rattle.std.specs.Prelude.{◌+◌, [], ◌∷◌, nat_le};
 ghost use Rattle.file_bytes.specs.Bytes.{numbers};
 ghost use Rattle.labels.specs.Labels.{absent_at, falling_at};
-ghost use Rattle.refusals.specs.Checks.{when, with};
+ghost use Rattle.refusals.specs.Checks.{when, with, Passed};
 ghost use Rattle.refusals.specs.declared.Refusal.TheVariants.{Absent, Order};
-ghost use Rattle.book.specs.Drafts.{Passed, principal_rows};
+ghost use Rattle.book.specs.Drafts.{principal_rows};
 
 use calculus::rule::Principals;
 use labels::members::{first_absent, first_falling};
 use refusals::Refusal;
-
-/// Whether a concept, a line or a claim stands, where `count` of them do; its number has this position in its call.
-pub fn check_stands(number: u16, count: usize, position: u8) -> Result<(), Refusal>
-    ensures { Passed (when (nat_le count number) (Absent position) ∷ []) result }
-{
-    if (number as usize) < count {
-        Ok(())
-    } else {
-        Err(Refusal::Absent(position as usize))
-    }
-}
+use refusals::checks::check_stands;
 
 /// Whether the concepts that a step names stand, where `count` concepts do; they have the positions 1 to 3 of their call.
 pub fn check_principals(on: Principals, count: usize) -> Result<(), Refusal>

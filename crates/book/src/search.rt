@@ -1,5 +1,5 @@
 ghost use Rattle.std.specs.Prelude.{◌≡◌};
-ghost use Rattle.book.specs.Lines.{lies_within, first_within};
+ghost use Rattle.book.specs.Lines.{lies_within, first_line_within};
 
 use crate::line::Line;
 use labels::rows::first_outside;
@@ -13,7 +13,7 @@ fn is_within(y: &[u64; 16], x: &[u64; 16]) -> bool
 
 /// The first line whose label lies within the row `x`.
 pub fn find_within(lines: &[Line], x: &[u64; 16]) -> Option<usize>
-    ensures { result ≡ first_within lines.now x.now }
+    ensures { result ≡ first_line_within lines.now x.now }
 {
     lines.iter().position(|line| is_within(&line.label, x))
 }

@@ -28,9 +28,9 @@ either_known : (z y a b : Bool) → (b ≡ true → y ≡ true) → cond z a b �
 either_known true y a b f h = refl
 either_known false y a b f h = f h
 
-either_bounded : (z a b : Bool) (P : Type 0) → (a ≡ true → P) → (b ≡ true → P) → cond z a b ≡ true → P
-either_bounded true a b P f g h = f h
-either_bounded false a b P f g h = g h
+pub either_taken : (z a b : Bool) (P : Type 0) → (a ≡ true → P) → (b ≡ true → P) → cond z a b ≡ true → P
+either_taken true a b P f g h = f h
+either_taken false a b P f g h = g h
 
 either_sound : (z : Bool) (v : Vocabulary) (X : ℕ → Bool) (a a' : Bool) (n n' : ℕ) (f f' : ℕ → ℕ → Bool) → Sound v X a n f → Sound v X a' n' f'
     → Sound v X (cond z a a') (cond z n n') (λ i c. cond z (f i c) (f' i c))
@@ -41,6 +41,6 @@ pub beside_lawful : (a b : Calculus) → LawfulCalculus a → LawfulCalculus b �
 beside_lawful a b la lb = record {
   few = λ n. either_few (a.has n) (a.cites n) (b.cites n) (la.few n) (lb.few n);
   known = λ n v on x. either_known (a.has n) (b.has n) (a.applies n v on x) (b.applies n v on x) (lb.known n v on x);
-  bounded = λ n v on x i c. either_bounded (a.has n) (a.concludes n v on x i c) (b.concludes n v on x i c) (c < 1024) (la.bounded n v on x i c) (lb.bounded n v on x i c);
+  bounded = λ n v on x i c. either_taken (a.has n) (a.concludes n v on x i c) (b.concludes n v on x i c) (c < 1024) (la.bounded n v on x i c) (lb.bounded n v on x i c);
   sound = λ n v on x. either_sound (a.has n) v (has-bit x) _ _ _ _ _ _ (la.sound n v on x) (lb.sound n v on x);
 }

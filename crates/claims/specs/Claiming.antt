@@ -9,16 +9,16 @@ use Rattle.claims.specs.declared.Claims.{Claims}
 abbrev pub filed : Claims → List Claim
 filed x = x.list
 
-abbrev pub blank : Claim
-blank = record { label = replicate 16 0; status = Open }
+abbrev pub blank_claim : Claim
+blank_claim = record { label = replicate 16 0; status = Open }
 
 abbrev pub claim_at : Claims → ℕ → Claim
-claim_at x k = slice_index_or (filed x) k blank
+claim_at x k = slice_index_or (filed x) k blank_claim
 
 -- x becomes y as a claim with this label is filed: it stands at the end and is open
-abbrev pub Added : Claims → Claims → List ℕ → Option ℕ → Type 0
-Added x y label (Some i) = (i ≡ length (filed x)) × (length (filed x) < 256) × (filed y ≡ filed x ++ record { label = label; status = Open } ∷ [])
-Added x y label None = (256 ≤ length (filed x)) × (y ≡ x)
+abbrev pub ClaimFiled : Claims → Claims → List ℕ → Option ℕ → Type 0
+ClaimFiled x y label (Some i) = (i ≡ length (filed x)) × (length (filed x) < 256) × (filed y ≡ filed x ++ record { label = label; status = Open } ∷ [])
+ClaimFiled x y label None = (256 ≤ length (filed x)) × (y ≡ x)
 
 -- x becomes y as claim k is settled
 abbrev pub Settled : Claims → Claims → ℕ → Status → Bool → Type 0
@@ -28,20 +28,14 @@ Settled x y k s false = (length (filed x) ≤ k) × (y ≡ x)
 -- whether a claim is neither empty nor inhabited yet
 abbrev pub is_unsettled : Status → Bool
 is_unsettled Open = true
-is_unsettled Empty = false
-is_unsettled Inhabited = false
+is_unsettled status = false
 
 -- whether two statuses are the same
 abbrev pub same_status : Status → Status → Bool
 same_status Open Open = true
-same_status Open Empty = false
-same_status Open Inhabited = false
-same_status Empty Open = false
 same_status Empty Empty = true
-same_status Empty Inhabited = false
-same_status Inhabited Open = false
-same_status Inhabited Empty = false
 same_status Inhabited Inhabited = true
+same_status s t = false
 
 -- how many claims have this status
 abbrev pub tallied : Status → List Claim → ℕ

@@ -3,9 +3,12 @@
 ghost use Rattle.std.specs.Prelude.{◌≡◌, ◌<◌, ◌≤◌, [], length, MatchOption, nat_le};
 ghost use Rattle.std.specs.Option.{is_some};
 ghost use Rattle.claims.specs.declared.Status.TheVariants.{Open, Empty, Inhabited};
-ghost use Rattle.claims.specs.Claiming.{filed, claim_at, is_unsettled, tallied, Added, Settled};
+ghost use Rattle.claims.specs.Claiming.{filed, claim_at, is_unsettled, tallied, ClaimFiled, Settled};
 
 use register::bounded::Bounded;
+
+/// The most claims.
+pub const MOST_CLAIMS: usize = 256;
 
 /// What has become of a claim.
 #[derive(Clone, Copy, Debug, PartialEq, Eq)]
@@ -33,10 +36,10 @@ impl Claim {
     }
 }
 
-/// The claims, in filing order: at most 256.
+/// The claims, in filing order.
 #[derive(Drop)]
 pub struct Claims {
-    list: Bounded<Claim, 256>,
+    list: Bounded<Claim, MOST_CLAIMS>,
 }
 
 impl Claims {
@@ -76,7 +79,7 @@ impl Claims {
 
     /// Files an open claim with this label; None if the list is full.
     pub fn add(&mut self, label: [u64; 16]) -> Option<usize>
-        ensures { Added self.old self.new label result }
+        ensures { ClaimFiled self.old self.new label result }
     {
         self.list.add(Claim {
             label,

@@ -1,4 +1,4 @@
--- The test `is_below` decides what is below what.
+-- The test `decided_below` decides what is below what.
 use Rattle.std.proofs.Common.{ℕ, Bool, true, false, ◌&&◌, ◌||◌, T, eqb, ◌⊎◌, ◌↔◌, List, [], ◌∷◌, inl, inr, ⊎_elim, eqb→eq}
 use mathlib.Core.Logic.Iff
 use lib.Dec.{eqb_refl}
@@ -6,7 +6,7 @@ use Rattle.logic.specs.declared.role.RoleAxiom.{RoleAxiom}
 use Rattle.logic.specs.declared.role.RoleAxiom.TheVariants.{Inclusion, Transitivity}
 use Rattle.logic.specs.Roles.{inverse, Below, itself}
 use Rattle.closure.specs.Closure.{is_through}
-use Rattle.closure.specs.Decide.{is_below}
+use Rattle.closure.specs.Decide.{decided_below}
 use Rattle.closure.proofs.Chains.{Through, Twice}
 use Rattle.closure.proofs.BelowFacts.{below_none, below_transitivity_first, below_inclusion_first}
 
@@ -45,8 +45,8 @@ twice_decided f R all r s i j =
 pub eqb_decided : (i j : ℕ) → T (eqb i j) ↔ Below [] i j
 eqb_decided i j = (λ h. rw (eqb→eq i j h) itself, λ p. rw (below_none i j p) (eqb_refl j))
 
-pub below_decided : (axioms : List RoleAxiom) (r s : ℕ) → T (is_below axioms r s) ↔ Below axioms r s
+pub below_decided : (axioms : List RoleAxiom) (r s : ℕ) → T (decided_below axioms r s) ↔ Below axioms r s
 below_decided [] r s = eqb_decided r s
 below_decided (Inclusion a b ∷ axioms) r s =
-    Iff.trans (twice_decided (is_below axioms) (Below axioms) (below_decided axioms) a b r s) (below_inclusion_first axioms a b r s)
+    Iff.trans (twice_decided (decided_below axioms) (Below axioms) (below_decided axioms) a b r s) (below_inclusion_first axioms a b r s)
 below_decided (Transitivity a ∷ axioms) r s = Iff.trans (below_decided axioms r s) (below_transitivity_first axioms a r s)

@@ -8,7 +8,7 @@ use Rattle.bits.proofs.BitFacts.{bit_zero, pow_same, bit_pow_other}
 use Rattle.logic.specs.declared.role.RoleAxiom.{RoleAxiom}
 use Rattle.logic.specs.declared.role.RoleAxiom.TheVariants.{Inclusion, Transitivity}
 use Rattle.logic.specs.Roles.{inverse, Below}
-use Rattle.closure.specs.Closure.{words, cell, own_word, PairAdded, Exact}
+use Rattle.closure.specs.Closure.{row_words, cell, own_word, PairAdded, Exact}
 use Rattle.closure.proofs.Chains.{Through, Twice}
 use Rattle.closure.proofs.BelowFacts.{below_transitivity, below_inclusion}
 use Rattle.closure.proofs.Decided.{through_decided, eqb_decided}
@@ -30,16 +30,16 @@ own_cell i j = ⊎_elim same_word other_word (cases_eq (j / 64) (i / 64))
         ap (λ w. bit w (j % 64)) (cond-false (eqb (j / 64) (i / 64)) (2 ^ (i % 64)) 0 (ne_eqb (j / 64) (i / 64) d)) ∙ bit_zero (j % 64) ∙ sym (ne_eqb i j n)
 
 pub exact_start : (table : List ℕ) (roles : ℕ)
-    → ((at : ℕ) → at < roles * words roles → get_or table at 0 ≡ own_word (at / words roles) (at % words roles)) → Exact table roles []
+    → ((at : ℕ) → at < roles * row_words roles → get_or table at 0 ≡ own_word (at / row_words roles) (at % row_words roles)) → Exact table roles []
 exact_start table roles all i j hi hj = rw own (eqb_decided i j)
   where
-    column : j / 64 < words roles
+    column : j / 64 < row_words roles
     column = omega arith
 
     own : cell table roles i j ≡ eqb i j
     own =
-        ap (λ w. bit w (j % 64)) (all (i * words roles + j / 64) (place roles (words roles) i (j / 64) hi column)
-        ∙ ap₂ own_word (div-mul-add i (words roles) (j / 64) column) (mod-mul-add i (words roles) (j / 64) column))
+        ap (λ w. bit w (j % 64)) (all (i * row_words roles + j / 64) (place roles (row_words roles) i (j / 64) hi column)
+        ∙ ap₂ own_word (div-mul-add i (row_words roles) (j / 64) column) (mod-mul-add i (row_words roles) (j / 64) column))
         ∙ own_cell i j
 
 -- a pair and its inverse put in are one inclusion more

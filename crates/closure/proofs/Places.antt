@@ -1,7 +1,7 @@
 -- Places of a table whose rows stand one after another in a slice.
 use Rattle.std.proofs.Common.{◌≡◌, ℕ, ◌+◌, ◌*◌, ◌/◌, ◌%◌, ◌<◌, List, length, sym, ap, ◌∙◌, arith}
 use Rattle.std.proofs.lemmas.Nat.{mul-add-lt, div-mul-add, mod-mul-add}
-use Rattle.closure.specs.Closure.{words, Square}
+use Rattle.closure.specs.Closure.{row_words, Square}
 
 -- column b of row a, where there are h rows of w columns
 pub place : (h w a b : ℕ) → a < h → b < w → a * w + b < h * w
@@ -15,5 +15,5 @@ place_column w a b i j p q e = sym (mod-mul-add a w b p) ∙ ap (λ x. x % w) e 
 
 -- word k of row i stands in the table
 pub in_table : (table : List ℕ) (roles width i k : ℕ)
-    → Square table roles → width ≡ words roles → i < roles → k < words roles → i * width + k < length table
-in_table table roles width i k square e hi hk = rw (square, e) (place roles (words roles) i k hi hk)
+    → Square table roles → width ≡ row_words roles → i < roles → k < row_words roles → i * width + k < length table
+in_table table roles width i k square e hi hk = rw (square, e) (place roles (row_words roles) i k hi hk)

@@ -5,20 +5,20 @@ use Rattle.logic.specs.declared.role.RoleAxiom.{RoleAxiom}
 use Rattle.logic.specs.Roles.{Below}
 
 -- how many words a row has
-abbrev pub words : ℕ → ℕ
-words roles = (roles + 63) / 64
+abbrev pub row_words : ℕ → ℕ
+row_words roles = (roles + 63) / 64
 
 -- the table has a row for each role
 abbrev pub Square : List ℕ → ℕ → Type 0
-Square table roles = length table ≡ roles * words roles
+Square table roles = length table ≡ roles * row_words roles
 
 -- word k of row i
-abbrev pub word : List ℕ → ℕ → ℕ → ℕ → ℕ
-word table roles i k = slice_index table (i * words roles + k)
+abbrev pub row_word : List ℕ → ℕ → ℕ → ℕ → ℕ
+row_word table roles i k = slice_index table (i * row_words roles + k)
 
 -- the bit of role j in row i
 abbrev pub cell : List ℕ → ℕ → ℕ → ℕ → Bool
-cell table roles i j = bit (word table roles i (j / 64)) (j % 64)
+cell table roles i j = bit (row_word table roles i (j / 64)) (j % 64)
 
 -- the table has the bit of j in row i exactly if i is below j
 abbrev pub Exact : List ℕ → ℕ → List RoleAxiom → Type 0
@@ -30,8 +30,8 @@ own_word i k = cond (k == i / 64) (2 ^ (i % 64)) 0
 
 -- row i has taken over row s, and the other rows are as they were
 pub record RowJoined (old new : List ℕ) (roles i s : ℕ) : Type 0 where
-  pub joined : (k : ℕ) → k < words roles → word new roles i k ≡ bit_or (word old roles i k) (word old roles s k)
-  pub others : (a k : ℕ) → a < roles → k < words roles → a ≢ i → word new roles a k ≡ word old roles a k
+  pub joined : (k : ℕ) → k < row_words roles → row_word new roles i k ≡ bit_or (row_word old roles i k) (row_word old roles s k)
+  pub others : (a k : ℕ) → a < roles → k < row_words roles → a ≢ i → row_word new roles a k ≡ row_word old roles a k
 
 -- a closed relation f with the pair (r, s) put in: it leads from i to j as before, or through the pair
 abbrev pub is_through : (ℕ → ℕ → Bool) → ℕ → ℕ → ℕ → ℕ → Bool

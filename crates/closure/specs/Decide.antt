@@ -5,7 +5,7 @@ use Rattle.logic.specs.declared.role.RoleAxiom.TheVariants.{Inclusion, Transitiv
 use Rattle.logic.specs.Roles.{inverse}
 use Rattle.closure.specs.Closure.{is_through}
 
-abbrev pub is_below : List RoleAxiom → ℕ → ℕ → Bool
-is_below [] i j = i == j
-is_below (Inclusion r s ∷ axioms) i j = is_through (is_through (is_below axioms) r s) (inverse r) (inverse s) i j
-is_below (Transitivity r ∷ axioms) i j = is_below axioms i j
+abbrev pub decided_below : List RoleAxiom → ℕ → ℕ → Bool
+decided_below [] i j = i == j
+decided_below (Inclusion r s ∷ axioms) i j = is_through (is_through (decided_below axioms) r s) (inverse r) (inverse s) i j
+decided_below (Transitivity r ∷ axioms) i j = decided_below axioms i j

@@ -3,7 +3,7 @@
 ghost use Rattle.std.specs.Prelude.{◌≡◌, ◌%◌, ◌^◌, ◌<◌, List, [], ◌∷◌, ◌++◌};
 ghost use Rattle.logic.specs.declared.role.RoleAxiom.{RoleAxiom};
 ghost use Rattle.logic.specs.declared.role.RoleAxiom.TheVariants.{Inclusion};
-ghost use Rattle.closure.specs.Closure.{words, Square, cell, Exact, own_word, RowJoined, PairAdded};
+ghost use Rattle.closure.specs.Closure.{row_words, Square, cell, Exact, own_word, RowJoined, PairAdded};
 
 use bits::bit;
 use logic::role::inverse;
@@ -16,7 +16,7 @@ use logic::role::inverse;
 // How many words a row has.
 fn row_words(roles: usize) -> usize
     requires { roles < 2 ^ 32 }
-    ensures { result ≡ words roles }
+    ensures { result ≡ row_words roles }
 {
     roles.div_ceil(64)
 }

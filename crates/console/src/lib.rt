@@ -2,5 +2,7 @@
 
 #![tactic(auto)]
 
+pub mod failure;
 pub mod input;
 pub mod report;
+pub mod run;

@@ -1,37 +1,24 @@
-ghost use Rattle.std.specs.Prelude.{Result, ℕ};
-ghost use Rattle.docket.specs.Runs.{Reached};
-ghost use Rattle.facts.specs.Claims.{ClaimsAreRight};
-ghost use Rattle.facts.specs.Facts.{ThreeFacts};
-ghost use Rattle.intake.specs.Taking.{FileTaken};
-ghost use Rattle.refusals.specs.declared.Refusal.{Refusal};
-ghost use Rattle.schemas.specs.House.{house};
+ghost use Rattle.std.specs.Prelude.{Some};
+ghost use Rattle.console.specs.Reports.{report_text};
 
-use anyhow::Context;
-use docket::Docket;
-use intake::{Reply, take_file};
-use rules::table::house;
+use intake::Reply;
+use std::fmt;
 
-/// Hands a dossier to a docket with the ten rules, and prints the reply to each record and the tally. Whatever is printed, the
-/// file was taken; what is printed is no part of the contract.
-pub fn report(
-    rt: &impl Print,
-    docket: &mut Docket,
-    file: &[u8],
-    rows: &mut [u64],
-    replies: &mut [Reply],
-) -> anyhow::Result<()>
-    ensures taken { (answer : Result ℕ Refusal) × FileTaken house file.now docket.old rows.old replies.old answer docket.new rows.new replies.new }
-    ensures reached { Reached docket.old → Reached docket.new }
-    ensures facts { ThreeFacts }
-    ensures claims { ClaimsAreRight }
-{
-    let count = take_file(docket, &house(), file, rows, replies)
-        .ok()
-        .context("more records than replies")?;
-    for (i, reply) in replies[0..count].iter().enumerate() {
-        println!(rt; "{} {}", i + 1, reply)?;
+/// What is printed of a dossier: a line for each reply, with the index of its record from 1, and the tally of the claims.
+#[derive(Clone, Copy)]
+pub struct Report<'r> {
+    pub replies: &'r [Reply],
+    pub tally: (usize, usize, usize),
+}
+
+impl fmt::Display for Report<'_> {
+    ghost output = { λ r. Some (report_text r.replies.now r.tally) };
+
+    fn fmt<W: fmt::Write>(&self, f: &mut fmt::Formatter<W>) -> fmt::Result {
+        for (i, reply) in self.replies.iter().enumerate() {
+            writeln!(f, "{} {reply}", i + 1)?;
+        }
+        let (open, empty, inhabited) = self.tally;
+        writeln!(f, "end {open} {empty} {inhabited}")
     }
-    let (open, empty, inhabited) = docket.tally();
-    println!(rt; "end {open} {empty} {inhabited}")?;
-    Ok(())
 }

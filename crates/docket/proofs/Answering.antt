@@ -1,9 +1,9 @@
 -- The answers mean what they should, in every docket that is reached.
 use Rattle.std.proofs.Common.{◌≡◌, ℕ, ◌/◌, ◌<◌, Bool, true, false, leb, T, ◌↔◌, List, [], ◌∷◌, Some, None, Ok, Err, Option, Result, sym, refl, ◌∙◌, subst, arith}
-use Rattle.std.proofs.lemmas.Bool.{lt-ltb}
+use Rattle.std.proofs.lemmas.Bool.{lt-ltb, leb-false}
 use Rattle.refusals.specs.declared.Refusal.TheVariants.{Range}
 use Rattle.refusals.specs.Checks.{when, first}
-use Rattle.refusals.proofs.Clearing.{clear, when_none, leb_false}
+use Rattle.refusals.proofs.Clearing.{clear, when_none}
 use Rattle.bits.specs.Bits.{bit}
 use Rattle.register.specs.declared.store.Unfit.{Unfit}
 use Rattle.register.specs.declared.store.Unfit.TheVariants.{Refers, Full}
@@ -23,20 +23,15 @@ use Rattle.docket.specs.declared.Docket.{Docket}
 use Rattle.docket.specs.Questions.{SaysBelow, SaysTransitive, SaysMate, MeansTheSame}
 use Rattle.docket.specs.Runs.{Reached}
 use Rattle.docket.proofs.Reaching.{reached_kept}
-
-is_T : (b : Bool) → b ≡ true → T b
-is_T b h = subst T (sym h) tt
-
-T_is : (b : Bool) → T b → b ≡ true
-T_is true h = refl
-T_is false h = absurd h
+use Rattle.std.proofs.lemmas.Float.{T_from_true}
+use Rattle.bits.proofs.Tests.{T_true}
 
 through : (b c : Bool) (P : Type 0) → b ≡ c → T c ↔ P → b ≡ true ↔ P
-through b c P e h = (λ k. h.0 (is_T c (sym e ∙ k)), λ p. e ∙ T_is c (h.1 p))
+through b c P e h = (λ k. h.0 (T_from_true c (sym e ∙ k)), λ p. e ∙ T_true c (h.1 p))
 
 -- a number that is not refused as a role is one
 pub role_fits : (r p : ℕ) → first (when (leb 128 r) (Range p) ∷ []) ≡ None → r < 128
-role_fits r p h = leb_false 128 r (when_none (leb 128 r) (Range p) (clear (when (leb 128 r) (Range p) ∷ []) h).0)
+role_fits r p h = leb-false 128 r (when_none (leb 128 r) (Range p) (clear (when (leb 128 r) (Range p) ∷ []) h).0)
 
 pub says_below : (d : Docket) (r s : ℕ) (b : Bool) → r < 128 → s < 128 → b ≡ is_below d.vocabulary.roles r s → Reached d → SaysBelow d r s b
 says_below d r s b lr ls e p =

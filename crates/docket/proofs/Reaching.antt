@@ -1,7 +1,8 @@
 -- Every docket that is reached keeps what its vocabulary keeps.
 use Rattle.std.proofs.Common.{◌≡◌, ℕ, ◌<◌, false, leb, Ok, Err, Result, sym, subst}
 use Rattle.refusals.specs.declared.Refusal.{Refusal}
-use Rattle.refusals.proofs.Clearing.{clear, when_none, leb_false}
+use Rattle.refusals.proofs.Clearing.{clear, when_none}
+use Rattle.std.proofs.lemmas.Bool.{leb-false}
 use Rattle.logic.specs.declared.concept.Concept.{Concept}
 use Rattle.logic.specs.declared.concept.Concept.TheVariants.{Top, Bottom, Name, NotName, And, Or, Only, Exists}
 use Rattle.vocabulary.specs.Keeping.{InRange, Kept}
@@ -16,12 +17,12 @@ use Rattle.docket.specs.Runs.{Reached, began, called}
 in_range : (t a b : ℕ) (k : Concept) → Written t a b k → out_of_range (use_of_first t) a ≡ false → InRange k
 in_range t a b Top w h = tt
 in_range t a b Bottom w h = tt
-in_range t a b (Name n) w h = subst (λ (x : ℕ). x < 1024) (sym w.has_first) (leb_false 1024 a (rw (← w.has_tag) at h))
-in_range t a b (NotName n) w h = subst (λ (x : ℕ). x < 1024) (sym w.has_first) (leb_false 1024 a (rw (← w.has_tag) at h))
+in_range t a b (Name n) w h = subst (λ (x : ℕ). x < 1024) (sym w.has_first) (leb-false 1024 a (rw (← w.has_tag) at h))
+in_range t a b (NotName n) w h = subst (λ (x : ℕ). x < 1024) (sym w.has_first) (leb-false 1024 a (rw (← w.has_tag) at h))
 in_range t a b (And c d) w h = tt
 in_range t a b (Or c d) w h = tt
-in_range t a b (Only r c) w h = subst (λ (x : ℕ). x < 128) (sym w.has_first) (leb_false 128 a (rw (← w.has_tag) at h))
-in_range t a b (Exists r c) w h = subst (λ (x : ℕ). x < 128) (sym w.has_first) (leb_false 128 a (rw (← w.has_tag) at h))
+in_range t a b (Only r c) w h = subst (λ (x : ℕ). x < 128) (sym w.has_first) (leb-false 128 a (rw (← w.has_tag) at h))
+in_range t a b (Exists r c) w h = subst (λ (x : ℕ). x < 128) (sym w.has_first) (leb-false 128 a (rw (← w.has_tag) at h))
 
 acts_kept : (c : Call) (d e : Docket) (a : Result ℕ Refusal) → Acts c d a e → Kept d.vocabulary → Kept e.vocabulary
 acts_kept c d e (Err f) h t = subst (λ (x : Docket). Kept x.vocabulary) (sym h.1) t
@@ -33,7 +34,7 @@ acts_kept (concept n a b) d e (Ok i) h t =
 acts_kept (pair x y) d e (Ok i) h t = kept_pair d.vocabulary e.vocabulary x y h.1.0 t
 acts_kept (general c) d e (Ok i) h t =
     let r = clear (all_rows (general c) d) h.0 in
-    kept_axiom d.vocabulary e.vocabulary c i h.1.0 (leb_false (count d) c (when_none (leb (count d) c) _ r.1.0)) t
+    kept_axiom d.vocabulary e.vocabulary c i h.1.0 (leb-false (count d) c (when_none (leb (count d) c) _ r.1.0)) t
 acts_kept seal d e (Ok i) h t = subst Kept (sym h.1.0) t
 acts_kept (line k f) d e (Ok i) h t = subst Kept (sym h.1.1) t
 acts_kept (claim ms) d e (Ok i) h t = subst Kept (sym h.1.1) t

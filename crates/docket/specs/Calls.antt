@@ -13,7 +13,7 @@ use Rattle.vocabulary.specs.Keeping.{Kept}
 use Rattle.models.specs.declared.Model.{Model}
 use Rattle.models.specs.Judging.{LabelStands, Judged}
 use Rattle.claims.specs.declared.Status.TheVariants.{Empty, Inhabited}
-use Rattle.claims.specs.Claiming.{filed, claim_at, is_unsettled, Added, Settled}
+use Rattle.claims.specs.Claiming.{filed, claim_at, is_unsettled, ClaimFiled, Settled}
 use Rattle.calculus.specs.Calculi.{Calculus}
 use Rattle.book.specs.declared.filing.Draft.{Draft}
 use Rattle.book.specs.Lines.{cited_lines, label_of}
@@ -109,7 +109,7 @@ Done (pair a b) d i e = Paired d.vocabulary e.vocabulary a b true × (i ≡ 0) �
 Done (general c) d i e = AxiomFiled d.vocabulary e.vocabulary c (Some i) × (e.book ≡ d.book) × (e.claims ≡ d.claims)
 Done seal d i e = (e.vocabulary ≡ d.vocabulary) × (i ≡ 0) × (e.book ≡ d.book) × (e.claims ≡ d.claims)
 Done (line k f) d i e = Pushed cited_lines d.book e.book (line_of k f) (Ok i) × (e.vocabulary ≡ d.vocabulary) × (e.claims ≡ d.claims)
-Done (claim ms) d i e = Added d.claims e.claims (row ms) (Some i) × (e.vocabulary ≡ d.vocabulary) × (e.book ≡ d.book)
+Done (claim ms) d i e = ClaimFiled d.claims e.claims (row ms) (Some i) × (e.vocabulary ≡ d.vocabulary) × (e.book ≡ d.book)
 Done (close_empty c n) d i e = Settled d.claims e.claims c Empty true × (i ≡ 0) × (e.vocabulary ≡ d.vocabulary) × (e.book ≡ d.book)
 Done (close_inhabited c m old new) d i e = Settled d.claims e.claims c Inhabited true × (i ≡ 0) × (e.vocabulary ≡ d.vocabulary) × (e.book ≡ d.book)
 
@@ -121,30 +121,14 @@ JudgedFor d c m old r new =
 
 -- nothing speaks against a call
 abbrev pub Clears : Call → Docket → Type 0
-Clears (inclusion r s) d = refusal (inclusion r s) d ≡ None
-Clears (transitivity r) d = refusal (transitivity r) d ≡ None
-Clears (concept t a b) d = refusal (concept t a b) d ≡ None
-Clears (pair a b) d = refusal (pair a b) d ≡ None
-Clears (general c) d = refusal (general c) d ≡ None
-Clears seal d = refusal seal d ≡ None
-Clears (line k f) d = refusal (line k f) d ≡ None
-Clears (claim ms) d = refusal (claim ms) d ≡ None
-Clears (close_empty c n) d = refusal (close_empty c n) d ≡ None
 Clears (close_inhabited c m old new) d = (refusal (close_inhabited c m old new) d ≡ None) × JudgedFor d c m old (Ok tt) new
+Clears call d = refusal call d ≡ None
 
 -- a call is refused, by its first row; or a model by its judgement
 abbrev pub Refuses : Call → Docket → Refusal → Type 0
-Refuses (inclusion r s) d x = refusal (inclusion r s) d ≡ Some x
-Refuses (transitivity r) d x = refusal (transitivity r) d ≡ Some x
-Refuses (concept t a b) d x = refusal (concept t a b) d ≡ Some x
-Refuses (pair a b) d x = refusal (pair a b) d ≡ Some x
-Refuses (general c) d x = refusal (general c) d ≡ Some x
-Refuses seal d x = refusal seal d ≡ Some x
-Refuses (line k f) d x = refusal (line k f) d ≡ Some x
-Refuses (claim ms) d x = refusal (claim ms) d ≡ Some x
-Refuses (close_empty c n) d x = refusal (close_empty c n) d ≡ Some x
 Refuses (close_inhabited c m old new) d x =
     ((refusal (close_inhabited c m old new) d ≡ Some x) × (new ≡ old)) ⊎ ((refusal (close_inhabited c m old new) d ≡ None) × JudgedFor d c m old (Err x) new)
+Refuses call d x = refusal call d ≡ Some x
 
 -- THE CONTRACT of every call: if nothing speaks against it, it is done; else the first refusal is returned, and the docket,
 -- with its memory, is as it was. What becomes of the working rows, `Refuses` and `JudgedFor` say.

@@ -4,7 +4,7 @@ use Rattle.refusals.specs.declared.Refusal.{Refusal}
 use Rattle.refusals.specs.declared.Refusal.TheVariants.{Range, Absent}
 use Rattle.refusals.specs.Checks.{when, first}
 use Rattle.logic.specs.declared.concept.Concept.{Concept}
-use Rattle.logic.specs.Concepts.{tag, first as first-number, second as second-number}
+use Rattle.logic.specs.Concepts.{tag, first_number, second_number}
 use Rattle.docket.specs.declared.fields.Use.{Use}
 use Rattle.docket.specs.declared.fields.Use.TheVariants.{Unused, Name, Role, Concept as Part}
 
@@ -23,11 +23,9 @@ out_of_range Role n = nat_le 128 n
 out_of_range Part n = false
 
 -- a part is one of the concepts that stand
-abbrev pub absent : Use → ℕ → ℕ → Bool
-absent Unused count n = false
-absent Name count n = false
-absent Role count n = false
-absent Part count n = nat_le count n
+abbrev pub part_absent : Use → ℕ → ℕ → Bool
+part_absent Part count n = nat_le count n
+part_absent other count n = false
 
 -- what reading a concept checks, in this order
 abbrev pub concept_rows : ℕ → ℕ → ℕ → ℕ → List (Option Refusal)
@@ -35,14 +33,14 @@ concept_rows count t a b =
     when (nat_lt 7 t) (Range 0)
     ∷ when (out_of_range (use_of_first t) a) (Range 1)
     ∷ when (out_of_range (use_of_second t) b) (Range 2)
-    ∷ when (absent (use_of_first t) count a) (Absent 1)
-    ∷ when (absent (use_of_second t) count b) (Absent 2) ∷ []
+    ∷ when (part_absent (use_of_first t) count a) (Absent 1)
+    ∷ when (part_absent (use_of_second t) count b) (Absent 2) ∷ []
 
 -- concept k is written with tag t and the numbers a and b
 pub record Written (t a b : ℕ) (k : Concept) : Type 0 where
   pub has_tag : tag k ≡ t
-  pub has_first : first-number k ≡ a
-  pub has_second : second-number k ≡ b
+  pub has_first : first_number k ≡ a
+  pub has_second : second_number k ≡ b
 
 -- the concept that is written, or the first row that refuses
 abbrev pub Read : ℕ → ℕ → ℕ → ℕ → Result Concept Refusal → Type 0

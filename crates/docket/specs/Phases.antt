@@ -22,11 +22,5 @@ admits phase Closing = not (is_open phase)
 
 -- the phase behind a call that is taken
 abbrev pub after : Phase → Subject → Phase
-after phase RoleAxiom = phase
-after phase Concept = phase
-after phase Pair = phase
-after phase Axiom = phase
 after phase Seal = Sealed
-after phase Line = phase
-after phase Claim = phase
-after phase Closing = phase
+after phase subject = phase

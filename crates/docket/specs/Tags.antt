@@ -15,6 +15,6 @@ tag_number Only = 6
 tag_number Exists = 7
 
 -- a number is that of the tag, or of none
-abbrev pub Decodes : ℕ → Result Tag UnknownTag → Type 0
-Decodes n (Ok t) = tag_number t ≡ n
-Decodes n (Err e) = (e.0 ≡ n) × (7 < n)
+abbrev pub DecodesTag : ℕ → Result Tag UnknownTag → Type 0
+DecodesTag n (Ok t) = tag_number t ≡ n
+DecodesTag n (Err e) = (e.0 ≡ n) × (7 < n)

@@ -7,14 +7,11 @@ ghost use Rattle.docket.specs.Calls.{Acts, claim, close_empty, close_inhabited};
 use crate::phase::Subject;
 use crate::{Answer, Docket};
 use book::members::{check_rising, check_standing};
-use claims::Status;
+use claims::{MOST_CLAIMS, Status};
 use labels::members::row_of;
 use labels::rows::first_outside;
 use models::{Model, judge};
 use refusals::Refusal;
-
-// The most claims.
-const MOST_CLAIMS: usize = 256;
 
 impl Docket<'_> {
     /// Files a claim of the label with these members.

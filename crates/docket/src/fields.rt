@@ -1,21 +1,17 @@
 ghost use Rattle.std.specs.Prelude.{[], ◌∷◌, nat_le};
-ghost use Rattle.refusals.specs.Checks.{when};
+ghost use Rattle.refusals.specs.Checks.{when, Passed};
 ghost use Rattle.refusals.specs.declared.Refusal.TheVariants.{Range, Absent};
-ghost use Rattle.book.specs.Drafts.{Passed};
-ghost use Rattle.docket.specs.Fields.{out_of_range, absent, Read};
+ghost use Rattle.docket.specs.Fields.{out_of_range, part_absent, Read};
 
 use crate::tag::Tag;
-use book::members::check_stands;
-use logic::concept::Concept;
+use logic::concept::{Concept, NAMES};
 use logic::role::ROLES;
 use refusals::Refusal;
+use refusals::checks::check_stands;
 
-// The most names there can be.
-const NAMES: usize = 1024;
-
-/// What one of the two numbers behind a tag is.
+// What one of the two numbers behind a tag is.
 #[derive(Clone, Copy, Debug, PartialEq, Eq)]
-pub enum Use {
+pub(crate) enum Use {
     Unused,
     Name,
     Role,
@@ -29,7 +25,7 @@ impl Use {
     {
         let fits = match self {
             Use::Unused => number == 0,
-            Use::Name => (number as usize) < NAMES,
+            Use::Name => number < NAMES,
             Use::Role => (number as usize) < ROLES,
             Use::Concept => true,
         };
@@ -42,7 +38,7 @@ impl Use {
 
     // Whether the number at this position, if it names a concept, names one of the `count` that stand.
     fn check_stands(self, number: u16, count: usize, position: u8) -> Result<(), Refusal>
-        ensures { Passed (when (absent self count number) (Absent position) ∷ []) result }
+        ensures { Passed (when (part_absent self count number) (Absent position) ∷ []) result }
     {
         match self {
             Use::Concept => check_stands(number, count, position),
@@ -58,8 +54,8 @@ pub(crate) fn check_role(role: u16, position: u8) -> Result<(), Refusal>
     Use::Role.check_range(role, position)
 }
 
-/// The concept that a tag and two numbers write, where `count` concepts stand.
-pub fn read_concept(count: usize, tag: u16, a: u16, b: u16) -> Result<Concept, Refusal>
+// The concept that a tag and two numbers write, where `count` concepts stand.
+pub(crate) fn read_concept(count: usize, tag: u16, a: u16, b: u16) -> Result<Concept, Refusal>
     ensures { Read count tag a b result }
 {
     let tag = Tag::try_from(tag).map_err(|_| Refusal::Range(0))?;

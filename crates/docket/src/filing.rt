@@ -6,13 +6,11 @@ use crate::fields::{check_role, read_concept};
 use crate::phase::Subject;
 use crate::{Answer, Docket};
 use book::filing::{Draft, check};
-use book::members::check_stands;
 use calculus::bank::Bank;
 use logic::role::RoleAxiom;
 use refusals::Refusal;
-
-// The most axioms of either list.
-const MOST_AXIOMS: usize = 256;
+use refusals::checks::check_stands;
+use vocabulary::MOST_AXIOMS;
 
 impl Docket<'_> {
     /// Files that role `r` is below role `s`.

@@ -2,14 +2,14 @@
 
 pub mod claiming;
 pub mod conclusion;
-pub mod fields;
+mod fields;
 pub mod filing;
 pub mod phase;
 pub mod questions;
-pub mod tag;
+mod tag;
 
 ghost use Rattle.std.specs.Prelude.{◌≡◌};
-ghost use Rattle.book.specs.Drafts.{Passed};
+ghost use Rattle.refusals.specs.Checks.{Passed};
 ghost use Rattle.docket.specs.Dockets.{opening_rows, Opened};
 
 use crate::phase::Phase;
@@ -18,11 +18,9 @@ use claims::Claims;
 use logic::concept::Concept;
 use refusals::Refusal;
 use register::store::Register;
-use vocabulary::Vocabulary;
+use vocabulary::{MOST_CONCEPTS, Vocabulary};
 
-/// The most concepts and the most lines that a host can ask for.
-pub const MOST_CONCEPTS: usize = 1024;
-
+/// The most lines that a host can ask for.
 pub const MOST_LINES: usize = 4096;
 
 /// What a call answers: the new entry's number (0 where there is none), or a refusal.

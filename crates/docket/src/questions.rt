@@ -1,6 +1,6 @@
 ghost use Rattle.std.specs.Prelude.{◌≡◌};
-ghost use Rattle.book.specs.Drafts.{Passed};
-ghost use Rattle.book.specs.Lines.{first_within};
+ghost use Rattle.refusals.specs.Checks.{Passed};
+ghost use Rattle.book.specs.Lines.{first_line_within};
 ghost use Rattle.file_bytes.specs.Bytes.{numbers};
 ghost use Rattle.labels.specs.Labels.{row};
 ghost use Rattle.vocabulary.specs.Mates.{mate};
@@ -12,10 +12,11 @@ ghost use Rattle.docket.specs.Runs.{Reached};
 use crate::Docket;
 use crate::fields::check_role;
 use crate::phase::Phase;
-use book::members::{check_rising, check_standing, check_stands};
+use book::members::{check_rising, check_standing};
 use book::search::find_within;
 use labels::members::row_of;
 use refusals::Refusal;
+use refusals::checks::check_stands;
 
 // What an answer means is promised of a docket that is reached. That a docket is reached is no ghost field of it: such a
 // field has to be a proposition, a run of calls is none, and from "there is some run" the meaning would not follow as it is.
@@ -64,7 +65,7 @@ impl Docket<'_> {
     /// The first standing line whose label lies within the label with these members. The checks of a label are two, since
     /// filing a claim asks for room between them.
     pub fn first_line(&self, members: &[u8]) -> Result<Option<usize>, Refusal>
-        ensures { Answered (label_rows self.now (numbers members.now)) (λ k. k ≡ first_within (lines self.now) (row (numbers members.now))) result }
+        ensures { Answered (label_rows self.now (numbers members.now)) (λ k. k ≡ first_line_within (lines self.now) (row (numbers members.now))) result }
     {
         check_standing(members, self.vocabulary.len(), 0)?;
         check_rising(members, 0)?;

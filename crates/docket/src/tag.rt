@@ -1,12 +1,12 @@
 ghost use Rattle.std.specs.Prelude.{◌≡◌};
-ghost use Rattle.docket.specs.Tags.{Decodes, tag_number};
+ghost use Rattle.docket.specs.Tags.{DecodesTag, tag_number};
 ghost use Rattle.docket.specs.Fields.{use_of_first, use_of_second};
 
 use crate::fields::Use;
 
-/// The tag of a concept as it is filed: its outermost constructor.
+// The tag of a concept as it is filed: its outermost constructor.
 #[derive(Clone, Copy, Debug, PartialEq, Eq)]
-pub enum Tag {
+pub(crate) enum Tag {
     Top,
     Bottom,
     Name,
@@ -17,14 +17,14 @@ pub enum Tag {
     Exists,
 }
 
-/// No tag has this number.
+// No tag has this number.
 #[derive(Clone, Copy, Debug, PartialEq, Eq)]
-pub struct UnknownTag(pub u16);
+pub(crate) struct UnknownTag(pub(crate) u16);
 
 impl TryFrom<u16> for Tag {
     type Error = UnknownTag;
 
-    ghost try_from_gives = { Decodes };
+    ghost try_from_gives = { DecodesTag };
 
     fn try_from(number: u16) -> Result<Tag, UnknownTag> {
         match number {
@@ -42,8 +42,8 @@ impl TryFrom<u16> for Tag {
 }
 
 impl Tag {
-    /// What the first number behind the tag is.
-    pub fn first(self) -> Use
+    // What the first number behind the tag is.
+    pub(crate) fn first(self) -> Use
         ensures { result ≡ use_of_first (tag_number self) }
     {
         match self {
@@ -54,8 +54,8 @@ impl Tag {
         }
     }
 
-    /// What the second number behind the tag is.
-    pub fn second(self) -> Use
+    // What the second number behind the tag is.
+    pub(crate) fn second(self) -> Use
         ensures { result ≡ use_of_second (tag_number self) }
     {
         match self {

@@ -1,12 +1,11 @@
 #![tactic(auto)]
 
-use anyhow::bail;
 use book::line::Line;
-use console::input::fill;
-use console::report::report;
-use docket::Docket;
+use console::run::{Memory, run};
 use intake::Reply;
 use logic::concept::Concept;
+use std::io;
+use std::io::BufWriter;
 
 // The most bytes that are read. What lies behind them is not looked at.
 const LIMIT: usize = 16384;
@@ -23,8 +22,8 @@ const ROWS: usize = 1024;
 
 // Reads a dossier, hands it to a new docket with the ten rules, and prints what the docket said.
 fn main(rt: HostRuntime) -> anyhow::Result<()> {
+    let mut output = BufWriter::new(rt.alloc(), io::writer(&rt))?;
     let mut buffer = [0; LIMIT];
-    let filled = fill(&mut rt.stdin(), &mut buffer)?;
     let mut concepts = [Concept::Top; CONCEPTS];
     let mut lines = [Line::default(); LINES];
     let mut rows = [0; ROWS];
@@ -32,15 +31,12 @@ fn main(rt: HostRuntime) -> anyhow::Result<()> {
         kind: 0,
         answer: Ok(0),
     }; RECORDS];
-    // no `.ok().context(..)?`: the borrow checker does not cover a method that takes an error with several `&mut`
-    let Ok(mut docket) = Docket::open(CONCEPTS, LINES, &mut concepts, &mut lines) else {
-        bail!("no docket of these capacities");
+    let memory = Memory {
+        concepts: &mut concepts,
+        lines: &mut lines,
+        rows: &mut rows,
+        replies: &mut replies,
     };
-    report(
-        &rt,
-        &mut docket,
-        &buffer[0..filled],
-        &mut rows,
-        &mut replies,
-    )
+    run(&mut rt.stdin(), &mut output, &mut buffer, memory)?;
+    Ok(())
 }

@@ -11,7 +11,7 @@ use Rattle.logic.specs.declared.role.RoleAxiom.TheVariants.{Transitivity}
 use Rattle.vocabulary.specs.declared.Vocabulary.{Vocabulary}
 use Rattle.vocabulary.specs.Keeping.{Kept}
 use Rattle.vocabulary.specs.Vocabularies.{concepts, axioms}
-use Rattle.models.specs.Items.{any_below}
+use Rattle.bits.specs.Below.{some_below}
 use Rattle.models.specs.Judging.{LabelStands}
 use Rattle.models.proofs.JudgingFacts.{Judgeable, satisfied, point_missed}
 use Rattle.claims.specs.declared.Status.TheVariants.{Open as Unsettled, Inhabited}
@@ -45,7 +45,7 @@ all_lie : (label rows : List ℕ) (n : ℕ) → every n (lie label rows) ≡ tru
 all_lie label rows n h c l i = implied (has label c) (contains rows c 0) (every_at n (lie label rows) c h l) (T_from_true (has label c) i)
 
 pub edge_missing : Acts without_edge claimed (Err (Point 3)) claimed
-unfolding row any_below
+unfolding row some_below
 edge_missing =
     let judged : JudgedFor claimed 2 (model 2 [] []) rows_at_first (Err (Point 3)) rows_without_edge = λ kept stands.
     point_missed (model 2 [] []) no_edge_formed [] six_concepts [] three rows_at_first rows_without_edge (judgeable six three rows_at_first kept stands (omega arith))
@@ -59,7 +59,7 @@ abbrev pub one_closed : Docket
 one_closed = docket Sealed six four_lines (three_claims Unsettled Unsettled Inhabited)
 
 pub edge_fits : Acts with_edge claimed (Ok 0) one_closed
-unfolding row any_below
+unfolding row some_below
 edge_fits =
     let judged : JudgedFor claimed 2 (model 2 [] one_edge) rows_without_edge (Ok tt) rows_with_edge = λ kept stands.
     satisfied (model 2 [] one_edge) one_edge_formed [] six_concepts [] three rows_without_edge rows_with_edge (judgeable six three rows_without_edge kept stands (omega arith))
@@ -80,7 +80,7 @@ chain_breaks =
     (inr (refl, judged), refl)
 
 pub closed_chain_fits : Acts by_closed_chain with_role (Ok 0) with_chain
-unfolding row any_below
+unfolding row some_below
 closed_chain_fits =
     let judged : JudgedFor with_role 0 (model 3 [] closed_chain) (rows (0 ∷ [])) (Ok tt) (rows (7 ∷ [])) = λ kept stands.
     satisfied (model 3 [] closed_chain) closed_chain_formed (Transitivity 0 ∷ []) (Top ∷ []) [] top (rows (0 ∷ [])) (rows (7 ∷ []))

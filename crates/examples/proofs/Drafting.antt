@@ -6,7 +6,7 @@ use Rattle.refusals.specs.Checks.{first}
 use Rattle.register.specs.Registers.{room}
 use Rattle.labels.specs.Least.{least}
 use Rattle.labels.specs.Labels.{row}
-use Rattle.schemas.specs.Tests.{some_below}
+use Rattle.bits.specs.Below.{some_below}
 use Rattle.schemas.specs.House.{house}
 use Rattle.book.specs.declared.filing.Draft.{Draft}
 use Rattle.book.specs.Drafts.{draft_rows, Admitted}

@@ -4,8 +4,6 @@ mod Passing
 mod Judging
 mod Models
 mod Claims
-mod OneJudgement
-mod OneAnswer
 mod Opening
 mod Running
 mod Reaching

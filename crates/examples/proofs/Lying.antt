@@ -2,7 +2,7 @@
 use Rattle.std.proofs.Common.{ℕ, ◌<◌, Bool, true, false, T, length, refl, arith}
 use Rattle.rows.specs.Rows.{contains}
 use Rattle.logic.specs.Meaning.{LiesIn}
-use Rattle.models.specs.Items.{any_below}
+use Rattle.bits.specs.Below.{some_below}
 use Rattle.models.specs.Models.{described}
 use Rattle.examples.specs.Cases.{Is, AllHold}
 use Rattle.examples.specs.SmallDocket.{six_concepts, model, one_mark, one_edge, rows_with_mark}
@@ -13,7 +13,7 @@ use Rattle.examples.proofs.Models.{marked_formed}
 use Rattle.examples.proofs.Reaching.{six_kept}
 
 lies_as_said : (c e : ℕ) (said : Bool) → c < length six_concepts → e < 2 → T (agrees (contains rows_with_mark c e) said) → Is (LiesIn (described (model 2 one_mark one_edge)) six_concepts c e) said
-unfolding any_below
+unfolding some_below
 lies_as_said c e said lc le h = agreed (LiesIn (described (model 2 one_mark one_edge)) six_concepts c e) (contains rows_with_mark c e) said
     (lies_as_evaluated (model 2 one_mark one_edge) marked_formed six_concepts rows_with_mark refl six_kept.concepts_kept.ordered c e lc le) h
 

@@ -5,14 +5,15 @@ use lib.Dec.{not_T}
 use Rattle.logic.specs.declared.role.RoleAxiom.{RoleAxiom}
 use Rattle.logic.specs.declared.role.RoleAxiom.TheVariants.{Inclusion, Transitivity}
 use Rattle.logic.specs.Interpretations.{Interpretation, leads, MeetsRoleAxiom, MeetsRoleAxioms}
-use Rattle.models.specs.Items.{any_below}
-use Rattle.models.proofs.Tests.{and_out, and_in, either_way}
-use Rattle.models.proofs.AnyFacts.{any_some, some_any}
+use Rattle.bits.specs.Below.{some_below}
+use Rattle.bits.proofs.Tests.{and_out, and_in}
+use Rattle.logic.proofs.Complements.{either_way}
+use Rattle.bits.proofs.SomeBelow.{some_there, there_some}
 
 module _ (I : Interpretation) where
   -- whether some element passes
   abbrev some : (ℕ → Bool) → Bool
-  some f = any_below (suc I.last) f
+  some f = some_below (suc I.last) f
 
   -- whether some pair of the first role is no pair of the second, or some two steps can't be made as one
   abbrev breaks : RoleAxiom → Bool
@@ -24,19 +25,19 @@ module _ (I : Interpretation) where
   is_met (a ∷ axioms) = not (breaks a) && is_met axioms
 
   found : (f : ℕ → Bool) (x : ℕ) → x ≤ I.last → T (f x) → T (some f)
-  found f x l t = some_any (suc I.last) f x (omega arith) t
+  found f x l t = there_some (suc I.last) f x (omega arith) t
 
   broken : (a : RoleAxiom) → T (breaks a) → MeetsRoleAxiom I a → ⊥
   broken (Inclusion r s) t h =
-      let (x, lx, u) = any_some _ _ t in
-      let (y, ly, w) = any_some _ _ u in
+      let (x, lx, u) = some_there _ _ t in
+      let (y, ly, w) = some_there _ _ u in
       let p = and_out _ _ w in
       T_not _ p.1 (h x y (omega arith) (omega arith) p.0)
   broken (Transitivity r) t h =
-      let (x, lx, u) = any_some _ _ t in
-      let (y, ly, w) = any_some _ _ u in
+      let (x, lx, u) = some_there _ _ t in
+      let (y, ly, w) = some_there _ _ u in
       let p = and_out _ _ w in
-      let (z, lz, q) = any_some _ _ p.1 in
+      let (z, lz, q) = some_there _ _ p.1 in
       let k = and_out _ _ q in
       T_not _ k.1 (h x y z (omega arith) (omega arith) (omega arith) p.0 k.0)
 

@@ -8,11 +8,11 @@ use lib.Dec.{T, eqb, eqb→eq}
 use Rattle.refusals.specs.Table.{returned}
 use Rattle.logic.specs.Interpretations.{MeetsRoleAxioms}
 use Rattle.logic.specs.Roles.{Below, Transitive}
-use Rattle.closure.specs.Decide.{is_below}
+use Rattle.closure.specs.Decide.{decided_below}
 use Rattle.closure.proofs.Decided.{below_decided}
-use Rattle.models.specs.Items.{any_below}
+use Rattle.bits.specs.Below.{some_below}
 use Rattle.models.specs.Models.{described}
-use Rattle.models.proofs.Tests.{and_out}
+use Rattle.bits.proofs.Tests.{and_out}
 use Rattle.examples.specs.Cases.{Case, below, transitive, applies, admits, meets, lies, opens, reaches, runs, answers, returns, Is, Holds, AllHold}
 use Rattle.examples.specs.RoleCases.{role_cases}
 use Rattle.examples.specs.RunCases.{refusal_cases}
@@ -26,7 +26,7 @@ agrees true said = said
 agrees false said = not said
 
 abbrev passes : Case → Bool
-passes (below axioms r s said) = agrees (is_below axioms r s) said
+passes (below axioms r s said) = agrees (decided_below axioms r s) said
 passes (transitive axioms r said) = agrees (is_transitive axioms r) said
 passes (meets m axioms said) = agrees (is_met (described m) axioms) said
 passes (returns x number place) = eqb (returned x).0 number && eqb (returned x).1 place
@@ -54,7 +54,7 @@ same_pair : {a b : ℕ} (p : ℕ × ℕ) → p.0 ≡ a → p.1 ≡ b → p ≡ (
 same_pair p e f = λ i. (e i, f i)
 
 passed : (c : Case) → T (passes c) → Holds c
-passed (below axioms r s said) h = agreed (Below axioms r s) (is_below axioms r s) said (below_decided axioms r s) h
+passed (below axioms r s said) h = agreed (Below axioms r s) (decided_below axioms r s) said (below_decided axioms r s) h
 passed (transitive axioms r said) h = agreed (Transitive axioms r) (is_transitive axioms r) said (transitive_decided axioms r) h
 passed (meets m axioms said) h = agreed (MeetsRoleAxioms (described m) axioms) (is_met (described m) axioms) said (met_decided (described m) axioms) h
 passed (returns x number place) h =
@@ -79,5 +79,5 @@ pub refusals_hold : AllHold refusal_cases
 refusals_hold = all_hold refusal_cases tt
 
 pub meetings_hold : AllHold meeting_cases
-unfolding any_below
+unfolding some_below
 meetings_hold = all_hold meeting_cases tt

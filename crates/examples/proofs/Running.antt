@@ -3,12 +3,12 @@ use Rattle.std.proofs.Common.{ℕ, List, [], ◌∷◌, Some, None, Option, refl
 use Rattle.logic.specs.declared.concept.Concept.{Concept}
 use Rattle.logic.specs.declared.concept.Concept.TheVariants.{Top, Name, NotName, Only, Exists}
 use Rattle.logic.specs.declared.role.RoleAxiom.TheVariants.{Transitivity}
-use Rattle.logic.specs.Concepts.{tag, first, second}
+use Rattle.logic.specs.Concepts.{tag, first_number, second_number}
 use Rattle.labels.specs.Least.{least}
 use Rattle.labels.specs.Labels.{row}
 use Rattle.vocabulary.proofs.RoleTables.{kept_transitivity}
 use Rattle.claims.specs.declared.Status.TheVariants.{Open as Unsettled}
-use Rattle.schemas.specs.Tests.{some_below}
+use Rattle.bits.specs.Below.{some_below}
 use Rattle.docket.specs.declared.Docket.{Docket}
 use Rattle.docket.specs.declared.phase.Phase.TheVariants.{Open, Sealed}
 use Rattle.docket.specs.Fields.{Written}
@@ -24,7 +24,7 @@ open_with cs ms = docket Open (vocabulary no_role_axiom cs ms) [] []
 abbrev one_pair : List (Option ℕ)
 one_pair = Some 1 ∷ Some 0 ∷ None ∷ None ∷ None ∷ []
 
-written : (k : Concept) → Written (tag k) (first k) (second k) k
+written : (k : Concept) → Written (tag k) (first_number k) (second_number k) k
 written k = record { has_tag = refl; has_first = refl; has_second = refl }
 
 pub vocabulary_ran : Ran opened vocabulary_events sealed

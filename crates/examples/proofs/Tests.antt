@@ -10,7 +10,7 @@ use lib.Dec.{T, eqb, eqb→eq, eqb_refl}
 use Rattle.logic.specs.declared.role.RoleAxiom.{RoleAxiom}
 use Rattle.logic.specs.declared.role.RoleAxiom.TheVariants.{Inclusion, Transitivity}
 use Rattle.logic.specs.Roles.{inverse, Transitive}
-use Rattle.models.proofs.Tests.{or_out, or_left, or_right}
+use Rattle.bits.proofs.Tests.{or_out, or_left, or_right}
 
 -- whether the list has the transitivity of r
 abbrev pub is_named : List RoleAxiom → ℕ → Bool

@@ -16,7 +16,7 @@ use Rattle.claims.specs.declared.Claim.{Claim}
 use Rattle.schemas.specs.House.{house}
 use Rattle.book.specs.declared.filing.Draft.{Draft}
 use Rattle.book.specs.declared.line.Line.{Line}
-use Rattle.book.specs.Lines.{blank}
+use Rattle.book.specs.Lines.{blank_line}
 use Rattle.book.specs.Drafts.{line_of}
 use Rattle.docket.specs.declared.Docket.{Docket}
 use Rattle.docket.specs.declared.phase.Phase.{Phase}
@@ -62,7 +62,7 @@ vocabulary roles cs ms = record {
 
 -- a docket with room for five lines
 abbrev pub docket : Phase → Vocabulary → List Line → List Claim → Docket
-docket phase v ls cs = record { phase = phase; vocabulary = v; book = register 5 blank ls; claims = record { list = cs } }
+docket phase v ls cs = record { phase = phase; vocabulary = v; book = register 5 blank_line ls; claims = record { list = cs } }
 
 -- A, "not A", "only S not A" and "some R" of that, "some S A" and "only R" of that, where role R is 0 and role S its inverse
 abbrev pub six_concepts : List Concept

@@ -3,11 +3,11 @@
 use Rattle.std.proofs.Common.{◌≡◌, ℕ, ◌<◌, ◌≤◌, Bool, true, not, leb, List, [], ◌∷◌, ◌++◌, length, get_or, set, Some, None, Ok, Err, Option, Result, sym, refl, ap, ◌∙◌, subst, ⊎_elim, arith, length-append, length-set}
 use mathlib.Core.List.{Memᴰ}
 use Rattle.std.proofs.lemmas.List.{get_or_append_left, get_or_push, length_push, get_or-set_same, get_or-set_other}
-use Rattle.std.proofs.lemmas.Bool.{cases_lt, cases_eq}
+use Rattle.std.proofs.lemmas.Bool.{cases_lt, cases_eq, not-false, leb-false}
 use Rattle.refusals.specs.declared.Refusal.{Refusal}
 use Rattle.refusals.specs.declared.Refusal.TheVariants.{Phase as WrongPhase, Absent, Outside}
 use Rattle.refusals.specs.Checks.{with}
-use Rattle.refusals.proofs.Clearing.{clear, when_none, not-false, leb_false}
+use Rattle.refusals.proofs.Clearing.{clear, when_none}
 use Rattle.bits.specs.Bits.{has}
 use Rattle.labels.specs.Labels.{row, absent_at, outside}
 use Rattle.logic.specs.declared.concept.Concept.{Concept}
@@ -25,7 +25,7 @@ use Rattle.claims.specs.declared.Claim.{Claim}
 use Rattle.claims.specs.declared.Claims.{Claims}
 use Rattle.claims.specs.declared.Status.{Status}
 use Rattle.claims.specs.declared.Status.TheVariants.{Open as Unsettled, Empty as IsEmpty, Inhabited}
-use Rattle.claims.specs.Claiming.{filed, blank, claim_at}
+use Rattle.claims.specs.Claiming.{filed, blank_claim, claim_at}
 use Rattle.book.specs.Lines.{label_of}
 use Rattle.docket.specs.declared.Docket.{Docket}
 use Rattle.docket.specs.declared.phase.Phase.{Phase}
@@ -83,18 +83,18 @@ module _ (v w : Vocabulary) (kept : Kept v) (more : List Concept) (concepts_more
 
 -- what holds of every claim of a list
 abbrev All : (Claim → Type 0) → List Claim → Type 0
-All P xs = (k : ℕ) → k < length xs → P (get_or xs k blank)
+All P xs = (k : ℕ) → k < length xs → P (get_or xs k blank_claim)
 
 all_push : (P : Claim → Type 0) (xs : List Claim) (x : Claim) → All P xs → P x → All P (xs ++ x ∷ [])
 all_push P xs x all h k l = ⊎_elim
-    (λ (q : k < length xs). subst P (sym (get_or_append_left xs (x ∷ []) blank k q)) (all k q))
-    (λ (q : length xs ≤ k). let e : length xs ≡ k = omega (arith, length_push xs x) in subst P (sym (get_or_push xs x blank k e)) h)
+    (λ (q : k < length xs). subst P (sym (get_or_append_left xs (x ∷ []) blank_claim k q)) (all k q))
+    (λ (q : length xs ≤ k). let e : length xs ≡ k = omega (arith, length_push xs x) in subst P (sym (get_or_push xs x blank_claim k e)) h)
     (cases_lt k (length xs))
 
 all_set : (P : Claim → Type 0) (xs : List Claim) (i : ℕ) (x : Claim) → All P xs → P x → All P (set xs i x)
 all_set P xs i x all h k l = ⊎_elim
-    (λ (e : k ≡ i). let q : i < length xs = omega (arith, length-set xs i x) in subst P (sym (ap (λ n. get_or (set xs i x) n blank) e ∙ get_or-set_same xs i x blank q)) h)
-    (λ (n : k ≡ i → ⊥). let q : k < length xs = omega (arith, length-set xs i x) in subst P (sym (get_or-set_other xs i k x blank n)) (all k q))
+    (λ (e : k ≡ i). let q : i < length xs = omega (arith, length-set xs i x) in subst P (sym (ap (λ n. get_or (set xs i x) n blank_claim) e ∙ get_or-set_same xs i x blank_claim q)) h)
+    (λ (n : k ≡ i → ⊥). let q : k < length xs = omega (arith, length-set xs i x) in subst P (sym (get_or-set_other xs i k x blank_claim n)) (all k q))
     (cases_eq k i)
 
 -- what every call keeps: no claim is filed before sealing, and all claims are as shown
@@ -145,7 +145,7 @@ settled d c s shown l e w = all_set (Shown d.vocabulary) (filed d.claims) c _ sh
 line_empties : (d : Docket) (c n : ℕ) → Kept d.vocabulary → Invariant d → refusal (close_empty c n) d ≡ None → Empty d.vocabulary (has (claim_at d.claims c).label)
 line_empties d c n kept s h I meets i =
     let r = clear (all_rows (close_empty c n) d) h in
-    let stands = leb_false (length (lines d)) n (when_none (leb (length (lines d)) n) (Absent 1) r.1.1.0) in
+    let stands = leb-false (length (lines d)) n (when_none (leb (length (lines d)) n) (Absent 1) r.1.1.0) in
     let none = with_none Outside (outside (label_of (lines d) n) (claim_at d.claims c).label) r.1.1.1.1.0 in
     let few = kept.concepts_kept.few in
     let short : (k : ℕ) → has (label_of (lines d) n) k ≡ true → k < 1024 = λ k m. let b = s.labels_stand n k stands m in omega arith in
@@ -192,7 +192,7 @@ reached_shown : (d : Docket) → Reached d → ClaimsShown d
 reached_shown d (began f) = no_claim d f.no_claim
 reached_shown d (called {d = b} c a p lent h) = acts_shown c b d a (reached_kept b p) (reached_invariant b p) h (reached_shown b p)
 
-claim_labels_stand : ClaimLabelsStand
+pub claim_labels_stand : ClaimLabelsStand
 claim_labels_stand d p c l = ((reached_shown d p).all_shown c l).stands
 
 empty_claims_are_empty : EmptyClaimsAreEmpty
@@ -210,7 +210,7 @@ inhabited_claims_have_no_line d p c l inhabited k m within =
 judged_for : (d : Docket) (c : ℕ) (m : Model) (old new : List ℕ) → refusal (close_inhabited c m old new) d ≡ None → c < length (filed d.claims)
 judged_for d c m old new h =
     let r = clear (all_rows (close_inhabited c m old new) d) h in
-    leb_false (length (filed d.claims)) c (when_none (leb (length (filed d.claims)) c) (Absent 0) r.1.1.0)
+    leb-false (length (filed d.claims)) c (when_none (leb (length (filed d.claims)) c) (Absent 0) r.1.1.0)
 
 models_are_judged : ModelsAreJudged
 models_are_judged d p c m old new (Ok i) e h acts = acts.0.1 (reached_kept d p) (claim_labels_stand d p c (judged_for d c m old new h))

@@ -14,7 +14,7 @@ use Rattle.calculus.specs.Cases.{Inhabits}
 use Rattle.calculus.specs.Calculi.{Calculus, LawfulCalculus}
 use Rattle.book.specs.declared.filing.Draft.{Draft}
 use Rattle.book.specs.declared.line.Line.{Line}
-use Rattle.book.specs.Lines.{blank, label_of}
+use Rattle.book.specs.Lines.{blank_line, label_of}
 use Rattle.book.specs.Drafts.{members, label, line_of, Admitted}
 use Rattle.book.proofs.Admitting.{admitted}
 use Rattle.docket.specs.declared.Docket.{Docket}
@@ -52,8 +52,8 @@ grown_invariant d e kept g same s =
 -- one line more
 label_push : (P : List ℕ → Type 0) (ls : List Line) (x : Line) (k : ℕ) → k < length (ls ++ x ∷ []) → (k < length ls → P (label_of ls k)) → P x.label → P (label_of (ls ++ x ∷ []) k)
 label_push P ls x k h old new = ⊎_elim
-    (λ (l : k < length ls). subst (λ (y : Line). P y.label) (sym (get_or_append_left ls (x ∷ []) blank k l)) (old l))
-    (λ (l : length ls ≤ k). let e : length ls ≡ k = omega (arith, length_push ls x) in subst (λ (y : Line). P y.label) (sym (get_or_push ls x blank k e)) new)
+    (λ (l : k < length ls). subst (λ (y : Line). P y.label) (sym (get_or_append_left ls (x ∷ []) blank_line k l)) (old l))
+    (λ (l : length ls ≤ k). let e : length ls ≡ k = omega (arith, length_push ls x) in subst (λ (y : Line). P y.label) (sym (get_or_push ls x blank_line k e)) new)
     (cases_lt k (length ls))
 
 module _ (k : Calculus) (law : LawfulCalculus k) (f : Draft) (d : Docket) (kept : Kept d.vocabulary) (s : Invariant d)

@@ -10,3 +10,5 @@ pub mod ProperBanks
 pub mod HouseProper
 pub mod HouseTrees
 pub mod ThreeFacts
+pub mod OneJudgement
+pub mod OneAnswer

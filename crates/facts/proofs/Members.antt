@@ -1,12 +1,10 @@
 -- Lists of numbers that all stand, and that rise.
 use Rattle.std.proofs.Common.{◌≡◌, ℕ, zero, suc, ◌+◌, ◌-◌, ◌<◌, ◌≤◌, Bool, true, false, not, ◌&&◌, eqb, ltb, List, [], ◌∷◌, length, get_or, None, sym, refl, ◌∙◌, subst, ⊎_elim, arith}
-use Rattle.std.proofs.lemmas.Bool.{cases_lt, and_parts, and_left, and_right, eqb-true, eq-eqb, lt-leb, le-ltb}
-use Rattle.refusals.proofs.Clearing.{not-false, leb_false}
+use Rattle.std.proofs.lemmas.Bool.{cases_lt, and_parts, and_left, and_right, eqb-true, eq-eqb, lt-leb, le-ltb, not-false, leb-false, or_cases, or_left, or_right}
 use Rattle.bits.specs.Bits.{has}
 use Rattle.labels.specs.Labels.{row, among, absent, absent_at, falls, falling_at, outside}
 use Rattle.labels.proofs.LeastFacts.{least_all, all_least}
 use Rattle.labels.proofs.RowFacts.{row_has}
-use Rattle.vocabulary.proofs.Pairings.{or_cases, or_left, or_right}
 use Rattle.facts.specs.Trees.{Rising}
 
 below_all : (n : ℕ) (ms : List ℕ) → ((i : ℕ) → i < length ms → get_or ms i 0 < n) → (c : ℕ) → among ms c ≡ true → c < n
@@ -17,7 +15,7 @@ below_all n (m ∷ ms) h c a = ⊎_elim
     (or_cases (eqb m c) (among ms c) a)
 
 pub none_absent : (n : ℕ) (ms : List ℕ) → absent_at n ms ≡ None → (c : ℕ) → among ms c ≡ true → c < n
-none_absent n ms h = below_all n ms (λ i l. leb_false n (get_or ms i 0) (least_all (length ms) (absent n ms) h i l))
+none_absent n ms h = below_all n ms (λ i l. leb-false n (get_or ms i 0) (least_all (length ms) (absent n ms) h i l))
 
 -- a number of a row is one of the numbers that it was made of
 pub in_row : (ms : List ℕ) (c : ℕ) → has (row ms) c ≡ true → among ms c ≡ true

@@ -10,7 +10,7 @@ use Rattle.vocabulary.specs.Keeping.{Kept}
 use Rattle.vocabulary.proofs.Keeping.{kept_pair}
 use Rattle.calculus.specs.Calculi.{Calculus}
 use Rattle.book.specs.declared.line.Line.{Line}
-use Rattle.book.specs.Lines.{blank}
+use Rattle.book.specs.Lines.{blank_line}
 use Rattle.book.specs.Drafts.{line_of}
 use Rattle.docket.specs.declared.Docket.{Docket}
 use Rattle.docket.specs.declared.phase.Phase.TheVariants.{Sealed}
@@ -191,10 +191,10 @@ module _ (k : Calculus) (proper : Proper k) where
 
   -- what stands goes on standing
   module _ (n : ℕ) (d e : Docket) (l : Later n d e) where
-    still_there : (i : ℕ) → i < length (lines d) → (i < length (lines e)) × (get_or (lines e) i blank ≡ get_or (lines d) i blank)
+    still_there : (i : ℕ) → i < length (lines d) → (i < length (lines e)) × (get_or (lines e) i blank_line ≡ get_or (lines d) i blank_line)
     still_there i h = (
       omega (arith, ap length l.lines_more, length-append (lines d) l.more),
-      ap (λ ls. get_or ls i blank) l.lines_more ∙ get_or_append_left (lines d) l.more blank i h,
+      ap (λ ls. get_or ls i blank_line) l.lines_more ∙ get_or_append_left (lines d) l.more blank_line i h,
     )
 
     pub still_taken : (x : Event) → Taken k d x → Taken k e x

@@ -11,7 +11,7 @@ use Rattle.vocabulary.specs.Vocabularies.{concepts}
 use Rattle.calculus.specs.Calculi.{Calculus, LawfulCalculus}
 use Rattle.book.specs.declared.filing.Draft.{Draft}
 use Rattle.book.specs.declared.line.Line.{Line}
-use Rattle.book.specs.Lines.{blank, label_of}
+use Rattle.book.specs.Lines.{blank_line, label_of}
 use Rattle.book.specs.Drafts.{members, label, line_of, conclusion, Admitted}
 use Rattle.book.proofs.Admitting.{no_row}
 use Rattle.docket.specs.declared.Docket.{Docket}
@@ -113,7 +113,7 @@ module _ (k : Calculus) (law : LawfulCalculus k) (proper : Proper k) where
       let x = line_of k f in
       let more = h.1.0.3 in
       let there : i < length (lines e) = omega (arith, ap length more, length_push (lines d) x, h.1.0.0) in
-      let is : get_or (lines e) i blank ≡ x = ap (λ ls. get_or ls i blank) more ∙ get_or_push (lines d) x blank i (sym h.1.0.0) in (
+      let is : get_or (lines e) i blank_line ≡ x = ap (λ ls. get_or ls i blank_line) more ∙ get_or_push (lines d) x blank_line i (sym h.1.0.0) in (
         record { draft = f; number = i; files = refl; answered = refl; stands = there; as_drafted = is },
         record { number = i; answered = refl; stands = there; has_label = ap (λ (y : Line). y.label) is },
       )

@@ -5,7 +5,7 @@ use Rattle.register.specs.Registers.{room}
 use Rattle.labels.specs.Labels.{row}
 use Rattle.calculus.specs.Calculi.{Calculus, LawfulCalculus}
 use Rattle.book.specs.declared.filing.Draft.{Draft}
-use Rattle.book.specs.Lines.{blank, label_of}
+use Rattle.book.specs.Lines.{blank_line, label_of}
 use Rattle.book.specs.Drafts.{members, line_of}
 use Rattle.docket.specs.declared.Docket.{Docket}
 use Rattle.docket.specs.declared.phase.Phase.TheVariants.{Sealed}
@@ -57,7 +57,7 @@ pub record Taken (k : Calculus) (e : Docket) (x : Event) : Type 0 where
   pub files : x.call ≡ line k draft
   pub answered : x.answer ≡ Ok number
   pub stands : number < length (lines e)
-  pub as_drafted : slice_index_or (lines e) number blank ≡ line_of k draft
+  pub as_drafted : slice_index_or (lines e) number blank_line ≡ line_of k draft
 
 -- the line that was answered stands in e, with this label
 pub record StandsWith (e : Docket) (label : List ℕ) (a : Result ℕ Refusal) : Type 0 where

@@ -1,5 +1,6 @@
 #![tactic(auto)]
 
+ghost use Rattle.facts.specs.Answers.{CallsHaveOneAnswer};
 ghost use Rattle.facts.specs.Claims.{ClaimsAreRight};
 ghost use Rattle.facts.specs.Facts.{ThreeFacts};
 ghost use Rattle.facts.specs.Filing.{ClosedTreesAreTaken};
@@ -20,4 +21,10 @@ pub fn three_facts_hold()
 /// A call does nothing; that it is proved says that the claims are right.
 pub fn claims_are_right()
     ensures { ClaimsAreRight }
+{}
+
+/// A CALL HAS ONE ANSWER in every docket that is reached: the contract of a call leaves no answer open.
+/// A call does nothing; that it is proved says that it holds.
+pub fn calls_have_one_answer()
+    ensures { CallsHaveOneAnswer }
 {}

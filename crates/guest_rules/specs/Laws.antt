@@ -1,6 +1,6 @@
 -- The rules beside the house's are lawful. That is shown here and not in proofs/, with no tactic: the source of a rule cites its law, and
 -- of its own crate it can cite specs/ alone.
-use Rattle.std.proofs.Common.{◌≡◌, ℕ, ◌<◌, ◌≤◌, Bool, true, cond, ◌&&◌, eqb, ltb, List, length, refl, subst, ⊎_elim}
+use Rattle.std.proofs.Common.{◌≡◌, ℕ, ◌<◌, ◌≤◌, Bool, true, cond, eqb, ltb, List, refl, subst, ⊎_elim}
 use Rattle.std.proofs.lemmas.Bool.{and_parts, eqb-true, ltb-true, leb-true}
 use Rattle.bits.specs.Bits.{has}
 use Rattle.logic.specs.declared.concept.Concept.TheVariants.{Or, Exists}
@@ -17,24 +17,20 @@ use Rattle.schemas.specs.Tests.{tagged, first_of, second_of}
 use Rattle.schemas.specs.House.{schema}
 use Rattle.schemas.proofs.Entries.{tagged_at}
 use Rattle.guest_rules.specs.Guests.{asked, asks_for_cases, neighbour_cases, forgetting}
+use Rattle.schemas.proofs.Agreement.{concluded}
 
 -- A rule made of tests is lawful if, where it applies, an element of the label gives one that has all that some conclusion lists.
 module _ (n cites : ℕ) (applies : Vocabulary → Principals → List ℕ → Bool) (lists : Vocabulary → Principals → List ℕ → ℕ → ℕ → Bool) where
-  listed : (v : Vocabulary) (on : Principals) (x : List ℕ) (i c : ℕ) → (schema n cites applies lists).concludes v on x i c ≡ true → (c < 1024) × (lists v on x i c ≡ true)
-  listed v on x i c h =
-      let small = and_parts (ltb c 1024) _ (and_parts (ltb i cites && applies v on x) _ h).1 in
-      (ltb-true c 1024 small.0, (and_parts (ltb c (length (concepts v))) (lists v on x i c) small.1).1)
-
   lawful : cites ≤ 2
       → ((v : Vocabulary) (on : Principals) (x : List ℕ) (I : Interpretation) → applies v on x ≡ true → Inhabits I v (has x)
       → (i : ℕ) × (i < cites) × Inhabits I v (lists v on x i))
       → Lawful (schema n cites applies lists)
   lawful few goes = record {
     few = few;
-    bounded = λ v on x i c h. (listed v on x i c h).0;
+    bounded = λ v on x i c h. (concluded n cites applies lists v on x i c h).2;
     sound = λ v on x I keeps meets h l.
         let (i, b, m) = goes v on x I h l in
-        (i, b, record { element = m.element; inside = m.inside; in_all = λ c k. m.in_all c (listed v on x i c k).1 });
+        (i, b, record { element = m.element; inside = m.inside; in_all = λ c k. m.in_all c (concluded n cites applies lists v on x i c k).4 });
   }
 
 -- a neighbour that lies in "D or E" lies in one of them

@@ -7,35 +7,35 @@ use Rattle.records.specs.declared.record.Frame.{Frame}
 use Rattle.records.specs.declared.record.Record.{Record}
 use Rattle.records.specs.declared.record.Record.TheVariants.{Inclusion, Transitivity, Concept, Pair, Axiom, Seal, Line, Claim, CloseEmpty, CloseInhabited}
 use Rattle.records.specs.Records.{end_of, Next}
-use Rattle.records.proofs.Offsets.{Passed, lies_all, lies_more, passed_more}
+use Rattle.records.proofs.Offsets.{RecordsBefore, lies_more, passed_more}
 use Rattle.docket.specs.declared.Docket.{Docket}
 use Rattle.calculus.specs.Calculi.{Calculus, LawfulCalculus}
 use Rattle.docket.specs.Runs.{Lent, Reached, called}
 use Rattle.intake.specs.declared.Reply.{Reply}
-use Rattle.intake.specs.Taking.{call_of, TakesContent, Takes, TakesAt, Taken, ended, next, HasRecords}
+use Rattle.intake.specs.Taking.{call_of, TakesContent, Takes, TakesAt, RecordsTaken, ended, next}
+use Rattle.records.specs.Files.{HasRecords}
 
 -- there is a place for the reply to a record that is left
-pub place_left : (f : List ℕ) (n i total : ℕ) → Passed f n i → i < length f → HasRecords f total → n < total
+pub place_left : (f : List ℕ) (n i total : ℕ) → RecordsBefore f n i → i < length f → HasRecords f total → n < total
 place_left f n i total passed l has =
-    let all = lies_all f 0 in
-    let rest = passed all.0 all.1 in
-    let more = lies_more f i rest.0 l rest.1 in
+    let (all, lie, count) = has in
+    let (rest, left, before) = passed all lie in
+    let more = lies_more f i rest l left in
     let e = ap length more.2 in
-    let t = has all.0 all.1 in
-    omega (arith, rest.2)
+    omega (arith, before, count)
 
 -- what the records up to i have done: whatever the rest replies stands behind the replies so far
 abbrev pub TakenTo : Calculus → List ℕ → ℕ → Docket → List ℕ → List Reply → Docket → List ℕ → Type 0
-TakenTo k f i d old rs m mid = (ss : List Reply) (e : Docket) (new : List ℕ) → Taken k f i m mid ss e new → Taken k f 0 d old (rs ++ ss) e new
+TakenTo k f i d old rs m mid = (ss : List Reply) (e : Docket) (new : List ℕ) → RecordsTaken k f i m mid ss e new → RecordsTaken k f 0 d old (rs ++ ss) e new
 
 taken_more : (k : Calculus) (f : List ℕ) (i n : ℕ) (d m m' : Docket) (old mid mid' : List ℕ) (rs : List Reply) (r : Reply) → i < length f → n < length rs
     → TakesAt k f i m mid r m' mid' → TakenTo k f i d old (take n rs) m mid → TakenTo k f (end_of f i) d old (take (n + 1) (set rs n r)) m' mid'
 taken_more k f i n d m m' old mid mid' rs r l h takes before ss e new rest =
-    subst (λ (xs : List Reply). Taken k f 0 d old xs e new) (sym (ap (λ (xs : List Reply). xs ++ ss) (take_more_set rs n r h) ∙ append_assoc (take n rs) (r ∷ []) ss))
+    subst (λ (xs : List Reply). RecordsTaken k f 0 d old xs e new) (sym (ap (λ (xs : List Reply). xs ++ ss) (take_more_set rs n r h) ∙ append_assoc (take n rs) (r ∷ []) ss))
     (before (r ∷ ss) e new (next l takes rest))
 
-pub taken_all : (k : Calculus) (f : List ℕ) (i : ℕ) (d m : Docket) (old mid : List ℕ) (rs : List Reply) → length f ≤ i → TakenTo k f i d old rs m mid → Taken k f 0 d old rs m mid
-taken_all k f i d m old mid rs l before = subst (λ (xs : List Reply). Taken k f 0 d old xs m mid) (append-nil rs) (before [] m mid (ended l))
+pub taken_all : (k : Calculus) (f : List ℕ) (i : ℕ) (d m : Docket) (old mid : List ℕ) (rs : List Reply) → length f ≤ i → TakenTo k f i d old rs m mid → RecordsTaken k f 0 d old rs m mid
+taken_all k f i d m old mid rs l before = subst (λ (xs : List Reply). RecordsTaken k f 0 d old xs m mid) (append-nil rs) (before [] m mid (ended l))
 
 -- the places behind are as they were
 untouched_more : (rs old : List Reply) (n : ℕ) (r : Reply) → drop n rs ≡ drop n old → drop (n + 1) (set rs n r) ≡ drop (n + 1) old
@@ -45,7 +45,7 @@ untouched_more rs old n r e = drop-set-lt (n + 1) rs n r (omega arith) ∙ sym (
 -- are written to the places rs, and ss is what the places have now.
 pub record Handed (k : Calculus) (f : List ℕ) (r : Reader) (n : ℕ) (d : Docket) (old : List ℕ) (rs : List Reply) (m : Docket) (mid : List ℕ) (ss : List Reply) : Type 0 where
   pub file : r.file.now ≡ f
-  pub passed : Passed f n r.at
+  pub passed : RecordsBefore f n r.at
   pub taken : TakenTo k f r.at d old (take n ss) m mid
   pub behind : drop n ss ≡ drop n rs
 
@@ -89,7 +89,7 @@ takes_reached : (k : Calculus) → LawfulCalculus k → (x : Result Record Refus
 takes_reached k law (Err f) d e old new a h p = subst Reached (sym h.1) p
 takes_reached k law (Ok x) d e old new a h p = called (call_of k old new x) a p (lent k law old new x) h.0
 
-pub taken_reached : (k : Calculus) → LawfulCalculus k → (f : List ℕ) (i : ℕ) (d e : Docket) (old new : List ℕ) (rs : List Reply) → Taken k f i d old rs e new → Reached d → Reached e
+pub taken_reached : (k : Calculus) → LawfulCalculus k → (f : List ℕ) (i : ℕ) (d e : Docket) (old new : List ℕ) (rs : List Reply) → RecordsTaken k f i d old rs e new → Reached d → Reached e
 taken_reached k law f i d e old new rs (ended l) p = p
 taken_reached k law f i d e old new rs (next {m = m} {mid = mid} {r = r} l t rest) p =
     taken_reached k law f (end_of f i) m e mid new _ rest (takes_reached k law t.content d m old mid r.answer t.takes p)

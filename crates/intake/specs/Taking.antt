@@ -10,7 +10,7 @@ use Rattle.records.specs.declared.record.Record.{Record}
 use Rattle.records.specs.declared.record.Record.TheVariants.{Inclusion, Transitivity, Concept, Pair, Axiom, Seal, Line, Claim, CloseEmpty, CloseInhabited}
 use Rattle.records.specs.declared.record.Frame.{Frame}
 use Rattle.records.specs.Records.{kind_at, end_of, Content}
-use Rattle.records.specs.Files.{Lies}
+use Rattle.records.specs.Files.{HasRecords}
 use Rattle.intake.specs.declared.Reply.{Reply}
 
 -- the call that a record stands for, by its fields, with the rules k and working rows that are old before it and new after it
@@ -35,16 +35,8 @@ call_of k old new (CloseInhabited body marks edges) = close_inhabited (field bod
 
 -- what becomes of the working rows: a model's call says it, and every other leaves them as they were
 abbrev pub RowsAfter : Record → (old new : List ℕ) → Type 0
-RowsAfter (Inclusion body) old new = new ≡ old
-RowsAfter (Transitivity body) old new = new ≡ old
-RowsAfter (Concept body) old new = new ≡ old
-RowsAfter (Pair body) old new = new ≡ old
-RowsAfter (Axiom body) old new = new ≡ old
-RowsAfter Seal old new = new ≡ old
-RowsAfter (Line body members) old new = new ≡ old
-RowsAfter (Claim members) old new = new ≡ old
-RowsAfter (CloseEmpty body) old new = new ≡ old
 RowsAfter (CloseInhabited body marks edges) old new = Unit {0}
+RowsAfter other old new = new ≡ old
 
 -- docket d with rows old, given what lies in a file, answers and becomes e, with rows new; what is malformed is refused and
 -- changes nothing
@@ -63,18 +55,14 @@ pub record TakesAt (k : Calculus) (f : List ℕ) (i : ℕ) (d : Docket) (old : L
   pub takes : TakesContent k content d old r.answer e new
 
 -- the records of f from offset i on, one behind the other, take docket d to e with these replies
-pub data Taken (k : Calculus) (f : List ℕ) : ℕ → Docket → List ℕ → List Reply → Docket → List ℕ → Type 0 where
-  ended : {i : ℕ} {d : Docket} {old : List ℕ} → length f ≤ i → Taken k f i d old [] d old
+pub data RecordsTaken (k : Calculus) (f : List ℕ) : ℕ → Docket → List ℕ → List Reply → Docket → List ℕ → Type 0 where
+  ended : {i : ℕ} {d : Docket} {old : List ℕ} → length f ≤ i → RecordsTaken k f i d old [] d old
   next : {i : ℕ} {d m e : Docket} {old mid new : List ℕ} {r : Reply} {rs : List Reply} → i < length f → TakesAt k f i d old r m mid
-      → Taken k f (end_of f i) m mid rs e new → Taken k f i d old (r ∷ rs) e new
-
--- the file has n records
-abbrev pub HasRecords : List ℕ → ℕ → Type 0
-HasRecords f n = (offsets : List ℕ) → Lies f 0 offsets → n ≡ length offsets
+      → RecordsTaken k f (end_of f i) m mid rs e new → RecordsTaken k f i d old (r ∷ rs) e new
 
 -- Docket d with file f becomes e, its working rows go from old to new, and the memory for replies, rs at first, becomes ss.
 -- The answer is the count of records: there is a reply to each, in order, and the places behind them are as they were. With
 -- too few places nothing changes.
 abbrev pub FileTaken : Calculus → List ℕ → Docket → List ℕ → List Reply → Result ℕ Refusal → Docket → List ℕ → List Reply → Type 0
-FileTaken k f d old rs (Ok n) e new ss = HasRecords f n × (n ≤ length rs) × Taken k f 0 d old (take n ss) e new × (drop n ss ≡ drop n rs)
+FileTaken k f d old rs (Ok n) e new ss = HasRecords f n × (n ≤ length rs) × RecordsTaken k f 0 d old (take n ss) e new × (drop n ss ≡ drop n rs)
 FileTaken k f d old rs (Err x) e new ss = (x ≡ Range 1) × ((n : ℕ) × HasRecords f n × (length rs < n)) × (e ≡ d) × (new ≡ old) × (ss ≡ rs)

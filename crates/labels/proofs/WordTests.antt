@@ -1,11 +1,11 @@
 -- What the bits of a word say of the numbers of a row.
-use Rattle.std.proofs.Common.{◌≡◌, ℕ, suc, ◌+◌, ◌-◌, ◌*◌, ◌/◌, ◌%◌, ◌^◌, ◌<◌, ◌≤◌, min, Bool, true, false, not, ◌&&◌, ltb, leb, List, get_or, sym, refl, ap, ◌∙◌, ap₂, ⊎_elim, arith}
-use mathlib.Core.Bool.{xor, and_comm}
+use Rattle.std.proofs.Common.{◌≡◌, ℕ, suc, ◌+◌, ◌-◌, ◌*◌, ◌/◌, ◌%◌, ◌^◌, ◌<◌, ◌≤◌, min, not, ◌&&◌, ltb, leb, List, get_or, sym, ap, ◌∙◌, ap₂, ⊎_elim, arith}
+use mathlib.Core.Bool.{and_comm}
 use lib.Bits.{bit_and, bit_xor}
 use Rattle.std.proofs.lemmas.Bool.{cases_lt, le-leb, lt-leb}
 use Rattle.bits.specs.Bits.{bit, has}
 use Rattle.bits.proofs.BitFacts.{bit-bit_and}
-use Rattle.bits.proofs.Words.{bit-bit_xor, bit_ones, bit_from}
+use Rattle.bits.proofs.Words.{bit_without, bit_ones, bit_from}
 use Rattle.labels.proofs.WordSearch.{Tests}
 
 at_word : (r : List ℕ) (w j : ℕ) → j < 64 → has r (64 * w + j) ≡ bit (get_or r w 0) j
@@ -16,18 +16,11 @@ at_word r w j l =
 
 -- the numbers of one row that are not in another
 
-difference : (a b : Bool) → xor a (a && b) ≡ (a && not b)
-unfolding xor
-difference true true = refl
-difference true false = refl
-difference false b = refl
-
 pub outside_tests : (y x : List ℕ) (w : ℕ) → Tests (bit_xor (get_or y w 0) (bit_and (get_or y w 0) (get_or x w 0))) w (λ c. has y c && not (has x c))
 outside_tests y x w j l =
     let a = get_or y w 0 in
     let b = get_or x w 0 in
-    bit-bit_xor a (bit_and a b) j ∙ ap (xor (bit a j)) (bit-bit_and a b j) ∙ difference (bit a j) (bit b j)
-    ∙ sym (ap₂ (λ p q. p && not q) (at_word y w j l) (at_word x w j l))
+    bit_without a b j ∙ sym (ap₂ (λ p q. p && not q) (at_word y w j l) (at_word x w j l))
 
 -- the numbers from c upward, and those below a count
 

@@ -1,7 +1,5 @@
-pub mod Tests
 pub mod FirstFacts
 pub mod ChunkFacts
-pub mod AnyFacts
 pub mod EdgeFacts
 pub mod PairFacts
 pub mod TableFacts

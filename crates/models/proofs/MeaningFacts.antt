@@ -16,8 +16,9 @@ use Rattle.models.specs.declared.Model.{Model}
 use Rattle.models.specs.Items.{edges_in, edge_role, edge_source, edge_target, marks_in, marked}
 use Rattle.models.specs.Models.{WellFormed, described}
 use Rattle.models.specs.Evaluation.{reaches, computed, RowsHold}
-use Rattle.models.proofs.Tests.{and_out, and_in, eq_T, either_way}
-use Rattle.models.proofs.AnyFacts.{any_some, some_any}
+use Rattle.bits.proofs.Tests.{and_out, and_in, eq_T}
+use Rattle.logic.proofs.Complements.{either_way}
+use Rattle.bits.proofs.SomeBelow.{some_there, there_some}
 use Rattle.models.proofs.PairFacts.{element, in_range, leads_out, leads_in, source_in_range, target_in_range}
 
 -- the meaning of a concept depends on the meaning of its parts alone
@@ -48,13 +49,13 @@ record Reached (es : List ℕ) (r : ℕ) (g : ℕ → Bool) (e i : ℕ) : Type 0
 
 reaches_out : (es : List ℕ) (r : ℕ) (g : ℕ → Bool) (e : ℕ) → T (reaches es r g e) → (i : ℕ) × Reached es r g e i
 reaches_out es r g e t =
-    let w = any_some (edges_in es) _ t in
+    let w = some_there (edges_in es) _ t in
     let p = and_out _ _ w.2 in
     let q = and_out _ _ p.0 in
     (w.0, record { listed = w.1; role_is = eqb→eq _ _ q.0; passed = q.1; source_is = eqb→eq _ _ p.1 })
 
 reaches_in : (es : List ℕ) (r : ℕ) (g : ℕ → Bool) (e i : ℕ) → Reached es r g e i → T (reaches es r g e)
-reaches_in es r g e i w = some_any (edges_in es) _ i w.listed (and_in _ _ (and_in _ _ (eq_T _ _ w.role_is) w.passed) (eq_T _ _ w.source_is))
+reaches_in es r g e i w = there_some (edges_in es) _ i w.listed (and_in _ _ (and_in _ _ (eq_T _ _ w.role_is) w.passed) (eq_T _ _ w.source_is))
 
 module _ (m : Model) (formed : WellFormed m) where
   abbrev I : Interpretation
@@ -65,7 +66,7 @@ module _ (m : Model) (formed : WellFormed m) where
 
   marked_in_range : (a e : ℕ) → T (marked m.marks.now a e) → e < m.size
   marked_in_range a e t =
-      let w = any_some (marks_in m.marks.now) _ t in
+      let w = some_there (marks_in m.marks.now) _ t in
       subst (λ x. x < m.size) (eqb→eq _ _ (and_out _ _ w.2).1) (formed.good_marks w.0 w.1).element_in_range
 
   reached_in_range : (r : ℕ) (g : ℕ → Bool) (e : ℕ) → T (reaches es r g e) → e < m.size

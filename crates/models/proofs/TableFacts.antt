@@ -7,9 +7,10 @@ use Rattle.rows.specs.Rows.{contains, RowBecomes}
 use Rattle.rows.proofs.RowFacts.{contains_has, other_row}
 use Rattle.logic.specs.Interpretations.{leads}
 use Rattle.models.specs.declared.Model.{Model}
-use Rattle.models.specs.Items.{any_below, edges_in, edge_role, edge_from, edge_to, edge_source, edge_target}
+use Rattle.models.specs.Items.{edges_in, edge_role, edge_from, edge_to, edge_source, edge_target}
+use Rattle.bits.specs.Below.{some_below}
 use Rattle.models.specs.Models.{described}
-use Rattle.models.proofs.AnyFacts.{any_zero, any_more, any_same}
+use Rattle.bits.proofs.SomeBelow.{some_none, some_next, some_same}
 
 -- whether edge k is a pair of role r that leads from x to z
 abbrev pub is_pair : List ℕ → ℕ → ℕ → ℕ → ℕ → Bool
@@ -17,24 +18,24 @@ is_pair es r x z k = eqb (edge_role es k) (r / 2) && (eqb (edge_source es r k) x
 
 -- the table has the pairs among the edges below i
 abbrev pub TabledTo : List ℕ → ℕ → ℕ → List ℕ → Type 0
-TabledTo es r i table = (x z : ℕ) → x < 256 → z < 256 → contains table x z ≡ any_below i (is_pair es r x z)
+TabledTo es r i table = (x z : ℕ) → x < 256 → z < 256 → contains table x z ≡ some_below i (is_pair es r x z)
 
 pub table_none : (es : List ℕ) (r : ℕ) → TabledTo es r 0 (replicate 1024 0)
-table_none es r x z h l = contains_has (replicate 1024 0) x z l ∙ has_zeros 1024 (256 * x + z) ∙ sym (any_zero (is_pair es r x z))
+table_none es r x z h l = contains_has (replicate 1024 0) x z l ∙ has_zeros 1024 (256 * x + z) ∙ sym (some_none (is_pair es r x z))
 
 pub table_skip : (es : List ℕ) (r i : ℕ) (table : List ℕ) → TabledTo es r i table → eqb (edge_role es i) (r / 2) ≡ false → TabledTo es r (i + 1) table
 table_skip es r i table p n x z h l =
-    p x z h l ∙ sym (any_more i (is_pair es r x z) ∙ ap (λ b. any_below i (is_pair es r x z) || (b && (eqb (edge_source es r i) x && eqb (edge_target es r i) z))) n ∙ or-false (any_below i (is_pair es r x z)))
+    p x z h l ∙ sym (some_next i (is_pair es r x z) ∙ ap (λ b. some_below i (is_pair es r x z) || (b && (eqb (edge_source es r i) x && eqb (edge_target es r i) z))) n ∙ or-false (some_below i (is_pair es r x z)))
 
 pub table_insert : (es : List ℕ) (r i s t : ℕ) (old new : List ℕ) → TabledTo es r i old → eqb (edge_role es i) (r / 2) ≡ true → s ≡ edge_source es r i → t ≡ edge_target es r i
     → RowBecomes old new s (λ e. eqb t e || contains old s e) → TabledTo es r (i + 1) new
 table_insert es r i s t old new p y qs qt w x z h l =
     ⊎_elim here there (cases_eq s x)
-    ∙ sym (any_more i (is_pair es r x z) ∙ ap₂ (λ b c. any_below i (is_pair es r x z) || (b && (eqb c x && eqb (edge_target es r i) z))) y (sym qs)
-    ∙ ap (λ c. any_below i (is_pair es r x z) || (eqb s x && eqb c z)) (sym qt))
+    ∙ sym (some_next i (is_pair es r x z) ∙ ap₂ (λ b c. some_below i (is_pair es r x z) || (b && (eqb c x && eqb (edge_target es r i) z))) y (sym qs)
+    ∙ ap (λ c. some_below i (is_pair es r x z) || (eqb s x && eqb c z)) (sym qt))
   where
     so_far : Bool
-    so_far = any_below i (is_pair es r x z)
+    so_far = some_below i (is_pair es r x z)
 
     here : s ≡ x → contains new x z ≡ (so_far || (eqb s x && eqb t z))
     here e =
@@ -47,7 +48,7 @@ table_insert es r i s t old new p y qs qt w x z h l =
         ∙ sym (ap (λ b. so_far || (b && eqb t z)) (ne_eqb s x n) ∙ or-false so_far)
 
 -- all the edges are all the pairs
-pub table_leads : (m : Model) (r x z : ℕ) → any_below (edges_in m.edges.now) (is_pair m.edges.now r x z) ≡ leads (described m) r x z
+pub table_leads : (m : Model) (r x z : ℕ) → some_below (edges_in m.edges.now) (is_pair m.edges.now r x z) ≡ leads (described m) r x z
 table_leads m r x z = go (eqb (r % 2) 0)
   where
     es : List ℕ
@@ -56,7 +57,7 @@ table_leads m r x z = go (eqb (r % 2) 0)
     joins : ℕ → ℕ → ℕ → Bool
     joins x z k = eqb (edge_role es k) (r / 2) && (eqb (edge_from es k) x && eqb (edge_to es k) z)
 
-    go : (b : Bool) → any_below (edges_in es) (λ k. eqb (edge_role es k) (r / 2) && (eqb (cond b (edge_from es k) (edge_to es k)) x && eqb (cond b (edge_to es k) (edge_from es k)) z))
-        ≡ cond b (any_below (edges_in es) (joins x z)) (any_below (edges_in es) (joins z x))
+    go : (b : Bool) → some_below (edges_in es) (λ k. eqb (edge_role es k) (r / 2) && (eqb (cond b (edge_from es k) (edge_to es k)) x && eqb (cond b (edge_to es k) (edge_from es k)) z))
+        ≡ cond b (some_below (edges_in es) (joins x z)) (some_below (edges_in es) (joins z x))
     go true = refl
-    go false = any_same (edges_in es) _ _ (λ k l. ap (λ b. eqb (edge_role es k) (r / 2) && b) (and_comm (eqb (edge_to es k) x) (eqb (edge_from es k) z)))
+    go false = some_same (edges_in es) _ _ (λ k l. ap (λ b. eqb (edge_role es k) (r / 2) && b) (and_comm (eqb (edge_to es k) x) (eqb (edge_from es k) z)))

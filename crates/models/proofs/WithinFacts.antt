@@ -1,27 +1,17 @@
 -- A row within another, by the words of both.
-use Rattle.std.proofs.Common.{◌≡◌, ℕ, ◌+◌, ◌/◌, ◌%◌, ◌*◌, ◌^◌, ◌<◌, Bool, true, false, not, ◌&&◌, T, eqb, ◌↔◌, List, get_or, sym, refl, ap, ◌∙◌, ap₂, subst, ⊎_elim, arith, eqb→eq}
-use mathlib.Core.Bool.{xor}
+use Rattle.std.proofs.Common.{◌≡◌, ℕ, ◌+◌, ◌/◌, ◌%◌, ◌*◌, ◌^◌, ◌<◌, Bool, true, false, not, ◌&&◌, T, eqb, ◌↔◌, List, get_or, sym, ap, ◌∙◌, ap₂, subst, ⊎_elim, arith, eqb→eq}
 use lib.Bits.{bit_and, bit_xor}
 use Rattle.std.proofs.lemmas.Bool.{true≢false, false≢true, cases_eq}
 use Rattle.std.proofs.lemmas.Nat.{xor_lt, and_le_l}
 use Rattle.bits.specs.Bits.{bit, has}
-use Rattle.bits.proofs.BitFacts.{bit-bit_and, bit_zero}
-use Rattle.bits.proofs.Words.{bit-bit_xor, trailing_lowest}
+use Rattle.bits.proofs.BitFacts.{bit_zero}
+use Rattle.bits.proofs.Words.{bit_without, trailing_lowest}
 use Rattle.models.specs.Pairs.{WordWithin, Within}
-use Rattle.models.proofs.Tests.{eq_T}
+use Rattle.bits.proofs.Tests.{eq_T}
 
 -- what is left of y without x
 abbrev left : ℕ → ℕ → ℕ
 left y x = bit_xor y (bit_and y x)
-
-only_first : (a b : Bool) → xor a (a && b) ≡ (a && not b)
-unfolding xor
-only_first true true = refl
-only_first true false = refl
-only_first false b = refl
-
-bit_left : (y x j : ℕ) → bit (left y x) j ≡ (bit y j && not (bit x j))
-bit_left y x j = bit-bit_xor y (bit_and y x) j ∙ ap (xor (bit y j)) (bit-bit_and y x j) ∙ only_first (bit y j) (bit x j)
 
 both_or_none : (a b : Bool) → (a && not b) ≡ false → T a → T b
 both_or_none true true e h = tt
@@ -36,7 +26,7 @@ left_out false b e f = false≢true e
 pub word_within : (y x : ℕ) → y < 2 ^ 64 → T (eqb (left y x) 0) ↔ WordWithin y x
 word_within y x h = (
   (λ t. record {
-    bits = λ j l. let e : left y x ≡ 0 = eqb→eq _ _ t in both_or_none (bit y j) (bit x j) (sym (bit_left y x j) ∙ ap (λ n. bit n j) e ∙ bit_zero j);
+    bits = λ j l. let e : left y x ≡ 0 = eqb→eq _ _ t in both_or_none (bit y j) (bit x j) (sym (bit_without y x j) ∙ ap (λ n. bit n j) e ∙ bit_zero j);
   }),
   λ f. ⊎_elim (λ e. eq_T _ _ e) (λ n. absurd (some f n)) (cases_eq (left y x) 0),
 )
@@ -45,7 +35,7 @@ word_within y x h = (
     some f n =
         let small : left y x < 2 ^ 64 = xor_lt 64 y (bit_and y x) h (omega (arith, and_le_l y x, h)) in
         let (l, here, rest) = trailing_lowest 64 (left y x) (omega (arith, n)) small in
-        left_out (bit y _) (bit x _) (sym (bit_left y x _) ∙ here) (f.bits _ l)
+        left_out (bit y _) (bit x _) (sym (bit_without y x _) ∙ here) (f.bits _ l)
 
 pub row_within : (y x : List ℕ) → ((w : ℕ) → w < 4 → WordWithin (get_or y w 0) (get_or x w 0)) ↔ Within y x
 row_within y x = (

@@ -6,11 +6,12 @@ use Rattle.logic.specs.declared.concept.Concept.TheVariants.{Top, Bottom, Name, 
 use Rattle.logic.specs.Interpretations.{Interpretation, Element}
 use Rattle.logic.specs.Meaning.{LiesIn}
 use Rattle.models.specs.declared.Model.{Model}
-use Rattle.models.specs.Items.{edges_in, edge_role, edge_source, edge_target, any_below, marked}
+use Rattle.models.specs.Items.{edges_in, edge_role, edge_source, edge_target, marked}
+use Rattle.bits.specs.Below.{some_below}
 
 -- whether some pair of role r leads from e to an element that g passes
 abbrev pub reaches : List ℕ → ℕ → (ℕ → Bool) → ℕ → Bool
-reaches es r g e = any_below (edges_in es) (λ i. (edge_role es i == r / 2 && g (edge_target es r i)) && edge_source es r i == e)
+reaches es r g e = some_below (edges_in es) (λ i. (edge_role es i == r / 2 && g (edge_target es r i)) && edge_source es r i == e)
 
 -- whether e lies in a concept, as it is computed from the rows of the parts
 abbrev pub computed : Model → List ℕ → Concept → ℕ → Bool

@@ -1,8 +1,9 @@
 -- The marks and the edges of a model, as they stand in bytes: a mark has two fields, an edge three.
-use Rattle.std.specs.Prelude.{◌≡◌, ℕ, zero, suc, ◌+◌, ◌-◌, ◌*◌, ◌/◌, ◌%◌, ◌<◌, Bool, false, cond, ◌&&◌, ◌||◌, ◌⊎◌, List, length, ◌==◌, slice_index_or}
+use Rattle.std.specs.Prelude.{◌≡◌, ℕ, ◌+◌, ◌-◌, ◌*◌, ◌/◌, ◌%◌, ◌<◌, Bool, cond, ◌&&◌, ◌⊎◌, List, length, ◌==◌, slice_index_or}
 use Rattle.file_bytes.specs.Bytes.{field}
 use Rattle.models.specs.declared.items.Mark.{Mark}
 use Rattle.models.specs.declared.items.Edge.{Edge}
+use Rattle.bits.specs.Below.{some_below}
 
 -- how many there are
 abbrev pub marks_in : List ℕ → ℕ
@@ -67,18 +68,13 @@ pub record GoodEdge (es : List ℕ) (n i : ℕ) : Type 0 where
   pub to_in_range : edge_to es i < n
   pub edge_rises : 0 < i → TripleBefore (edge_role es (i - 1)) (edge_from es (i - 1)) (edge_to es (i - 1)) (edge_role es i) (edge_from es i) (edge_to es i)
 
--- whether f passes some number below n
-unfoldable pub any_below : ℕ → (ℕ → Bool) → Bool
-any_below zero f = false
-any_below (suc n) f = any_below n f || f n
-
 -- whether the mark (e, a) is listed
 abbrev pub marked : List ℕ → ℕ → ℕ → Bool
-marked ms a e = any_below (marks_in ms) (λ i. (mark_name ms i == a) && mark_element ms i == e)
+marked ms a e = some_below (marks_in ms) (λ i. (mark_name ms i == a) && mark_element ms i == e)
 
 -- whether the edge (r, x, y) is listed
 abbrev pub joined : List ℕ → ℕ → ℕ → ℕ → Bool
-joined es r x y = any_below (edges_in es) (λ i. (edge_role es i == r) && (edge_from es i == x && edge_to es i == y))
+joined es r x y = some_below (edges_in es) (λ i. (edge_role es i == r) && (edge_from es i == x && edge_to es i == y))
 
 -- the ends of an edge along a role of its name, which may be the inverse
 abbrev pub source : ℕ → Edge → ℕ

@@ -1,7 +1,7 @@
 -- What the judgement of a model says.
 use Rattle.std.specs.Prelude.{◌≡◌, ℕ, ◌<◌, true, List, length, Some, Ok, Err, Result, slice_index, slice_index_or}
 use Rattle.refusals.specs.declared.Refusal.{Refusal}
-use Rattle.refusals.specs.declared.Refusal.TheVariants.{Malformed, Phase, Range, Absent, Full, Order, Unpaired, Inapplicable, Unlicensed, Closed, Outside, Model as WrongModel, RoleAxiom as BrokenRoleAxiom, Axiom as MissedAxiom, Point as MissedByPoint}
+use Rattle.refusals.specs.declared.Refusal.TheVariants.{Model as WrongModel, RoleAxiom as BrokenRoleAxiom, Axiom as MissedAxiom, Point as MissedByPoint}
 use Rattle.bits.specs.Bits.{has}
 use Rattle.logic.specs.declared.concept.Concept.{Concept}
 use Rattle.logic.specs.declared.role.RoleAxiom.{RoleAxiom}
@@ -60,17 +60,7 @@ module _ (roles : List RoleAxiom) (cs : List Concept) (listed label : List ℕ) 
   Refused (BrokenRoleAxiom i) = RoleAxiomBroken i
   Refused (MissedAxiom i) = AxiomMissed i
   Refused (MissedByPoint c) = PointMissed c
-  Refused (Malformed offset) = ⊥
-  Refused Phase = ⊥
-  Refused (Range position) = ⊥
-  Refused (Absent position) = ⊥
-  Refused (Full capacity) = ⊥
-  Refused (Order position) = ⊥
-  Refused Unpaired = ⊥
-  Refused (Inapplicable rule) = ⊥
-  Refused (Unlicensed c) = ⊥
-  Refused (Closed claim) = ⊥
-  Refused (Outside c) = ⊥
+  Refused other = ⊥
 
   abbrev pub JudgedBy : Result (Unit {0}) Refusal → Type 0
   JudgedBy (Ok x) = Satisfied

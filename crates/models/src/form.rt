@@ -4,6 +4,16 @@ ghost use Rattle.models.specs.Models.{Sized, FirstBadMark, FirstBadEdge, WellFor
 ghost use Rattle.models.specs.FormProps.{WellFormed-prop};
 
 use crate::Model;
+use logic::concept::NAMES;
+use logic::role::ROLE_NAMES;
+
+// The most elements of a model.
+pub(crate) const MOST_ELEMENTS: u16 = 256;
+
+// The most marks and the most edges.
+const MOST_MARKS: u16 = 4096;
+
+const MOST_EDGES: usize = 4096;
 
 // A model that is well formed.
 #[derive(Clone, Copy)]
@@ -38,12 +48,12 @@ fn is_sized(model: &Model) -> bool
     let marks = model.marks;
     let edges = model.edges;
     model.size > 0
-        && model.size <= 256
+        && model.size <= MOST_ELEMENTS
         && model.point < model.size
-        && model.mark_count <= 4096
+        && model.mark_count <= MOST_MARKS
         && marks.len() == 4 * model.mark_count as usize
         && edges.len() % 6 == 0
-        && edges.len() / 6 <= 4096
+        && edges.len() / 6 <= MOST_EDGES
 }
 
 // Marks and edges are tested by functions of their own, as they are read. They go by number, since each is set beside the
@@ -55,7 +65,7 @@ fn is_good_mark(model: &Model, i: usize) -> bool
     ensures { T result ↔ GoodMark model.now.marks.now model.now.size i }
 {
     let mark = model.mark(i);
-    mark.element < model.size && mark.name < 1024 && (i == 0 || model.mark(i - 1) < mark)
+    mark.element < model.size && mark.name < NAMES && (i == 0 || model.mark(i - 1) < mark)
 }
 
 // The first bad mark.
@@ -71,7 +81,7 @@ fn is_good_edge(model: &Model, i: usize) -> bool
     ensures { T result ↔ GoodEdge model.now.edges.now model.now.size i }
 {
     let edge = model.edge(i);
-    edge.role_name < 64
+    edge.role_name < ROLE_NAMES
         && edge.from < model.size
         && edge.to < model.size
         && (i == 0 || model.edge(i - 1) < edge)

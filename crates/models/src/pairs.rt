@@ -4,7 +4,7 @@ ghost use Rattle.logic.specs.Interpretations.{leads};
 ghost use Rattle.models.specs.Models.{described};
 ghost use Rattle.models.specs.Pairs.{WordWithin, Within, Tabled, Tabled-prop, LeadsOn};
 
-use crate::form::Formed;
+use crate::form::{Formed, MOST_ELEMENTS};
 use crate::items::Edge;
 use rows::{insert, row};
 
@@ -61,7 +61,7 @@ impl<'m> Pairs<'m> {
         ensures four { length result ≡ 4 }
         ensures leads_to { (z : ℕ) → z < 256 → has result z ≡ leads (described self.now.formed.model.now) self.now.role x z }
     {
-        if x < 256 {
+        if x < MOST_ELEMENTS {
             row(&self.table, x as usize)
         } else {
             [0; 4]

@@ -53,19 +53,19 @@ files_are_their_records f =
     (is, p, λ js q. lies_only f 0 is js p q, together_rest f 0 is p)
 
 -- n records lie before offset i, however many follow
-abbrev pub Passed : List ℕ → ℕ → ℕ → Type 0
-Passed f n i = (is : List ℕ) → Lies f 0 is → (js : List ℕ) × Lies f i js × (length is ≡ n + length js)
+abbrev pub RecordsBefore : List ℕ → ℕ → ℕ → Type 0
+RecordsBefore f n i = (is : List ℕ) → Lies f 0 is → (js : List ℕ) × Lies f i js × (length is ≡ n + length js)
 
-pub passed_none : (f : List ℕ) → Passed f 0 0
+pub passed_none : (f : List ℕ) → RecordsBefore f 0 0
 passed_none f is p = (is, p, omega arith)
 
-pub passed_more : (f : List ℕ) (n i : ℕ) → i < length f → Passed f n i → Passed f (n + 1) (end_of f i)
+pub passed_more : (f : List ℕ) (n i : ℕ) → i < length f → RecordsBefore f n i → RecordsBefore f (n + 1) (end_of f i)
 passed_more f n i h passed is p =
     let (js, q, e) = passed is p in
     let (ks, r, s) = lies_more f i js h q in
     (ks, r, omega (arith, e, ap length s))
 
-pub passed_all : (f : List ℕ) (n i : ℕ) → length f ≤ i → Passed f n i → (is : List ℕ) → Lies f 0 is → n ≡ length is
+pub passed_all : (f : List ℕ) (n i : ℕ) → length f ≤ i → RecordsBefore f n i → (is : List ℕ) → Lies f 0 is → n ≡ length is
 passed_all f n i h passed is p =
     let (js, q, e) = passed is p in
     omega (arith, e, ap length (lies_end f i js h q))

@@ -1,12 +1,11 @@
 -- What a reader gives.
-use Rattle.std.proofs.Common.{◌≡◌, ℕ, ◌≤◌, List, [], ◌∷◌, length, map, Some, sym, subst, ap, ◌∙◌}
+use Rattle.std.proofs.Common.{◌≡◌, ℕ, ◌≤◌, List, [], ◌∷◌, length, map, Some, sym, subst}
 use Rattle.std.proofs.lemmas.List.{length-map}
 use Rattle.std.specs.Iterator.{Drains}
 use Rattle.records.specs.declared.reader.Reader.{Reader}
 use Rattle.records.specs.declared.record.Frame.{Frame}
 use Rattle.records.specs.Records.{Next}
-use Rattle.records.specs.Files.{Lies, ended, behind}
-use Rattle.records.proofs.Offsets.{lies_only}
+use Rattle.records.specs.Files.{Lies, ended, behind, HasRecords}
 
 -- where frames begin
 abbrev pub offsets : List Frame → List ℕ
@@ -25,5 +24,5 @@ pub given_lie : (r : Reader) (frames : List Frame) → Given r frames → Lies r
 given_lie r [] (u, (t, same, (past, end))) = ended (subst (λ (x : Reader). length x.file.now ≤ x.at) (sym same) past)
 given_lie r (frame ∷ frames) (u, (t, (s, step, run), last)) = one_frame r s frame (offsets frames) step (given_lie s frames (u, (t, run, last)))
 
-pub given_count : (r : Reader) (frames : List Frame) (is : List ℕ) → Given r frames → Lies r.file.now r.at is → length frames ≡ length is
-given_count r frames is given lies = sym (length-map frames _) ∙ ap length (lies_only r.file.now r.at is (offsets frames) lies (given_lie r frames given))
+pub given_count : (r : Reader) (frames : List Frame) → Given r frames → r.at ≡ 0 → HasRecords r.file.now (length frames)
+given_count r frames given start = (offsets frames, subst (λ (i : ℕ). Lies r.file.now i (offsets frames)) start (given_lie r frames given), sym (length-map frames _))

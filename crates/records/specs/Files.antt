@@ -8,6 +8,10 @@ pub data Lies (f : List ℕ) : ℕ → List ℕ → Type 0 where
   ended : {i : ℕ} → length f ≤ i → Lies f i []
   behind : {i : ℕ} {is : List ℕ} → i < length f → Lies f (end_of f i) is → Lies f i (i ∷ is)
 
+-- the file has n records
+abbrev pub HasRecords : List ℕ → ℕ → Type 0
+HasRecords f n = (offsets : List ℕ) × Lies f 0 offsets × (n ≡ length offsets)
+
 -- the bytes of the record at i
 abbrev pub bytes_of : List ℕ → ℕ → List ℕ
 bytes_of f i = part f i (end_of f i - i)

@@ -1,5 +1,5 @@
 ghost use Rattle.std.specs.Prelude.{◌≡◌, ◌↔◌, IsTrue};
-ghost use Rattle.records.specs.Kinds.{Decodes, CanHave};
+ghost use Rattle.records.specs.Kinds.{DecodesKind, CanHave};
 
 /// The kinds of records.
 #[derive(Clone, Copy, Debug, PartialEq, Eq)]
@@ -23,7 +23,7 @@ pub struct UnknownKind(pub u16);
 impl TryFrom<u16> for Kind {
     type Error = UnknownKind;
 
-    ghost try_from_gives = { Decodes };
+    ghost try_from_gives = { DecodesKind };
 
     fn try_from(number: u16) -> Result<Kind, UnknownKind> {
         match number {

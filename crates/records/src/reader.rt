@@ -1,7 +1,7 @@
 ghost use Rattle.std.specs.Prelude.{◌≡◌, ℕ, ◌-◌, List, length};
 ghost use Rattle.std.specs.Iterator.{at_most};
 ghost use Rattle.records.specs.Records.{Next};
-ghost use Rattle.records.specs.Files.{Lies, FilesAreTheirRecords};
+ghost use Rattle.records.specs.Files.{HasRecords, FilesAreTheirRecords};
 
 use crate::layout::{content, extent, kind_number};
 use crate::record::Frame;
@@ -48,7 +48,7 @@ impl<'f> Iterator for Reader<'f> {
 
 /// How many records the file has, malformed ones with them.
 pub fn count(file: &[u8]) -> usize
-    ensures counted { (is : List ℕ) → Lies file.now 0 is → result ≡ length is }
+    ensures counted { HasRecords file.now result }
     ensures law { FilesAreTheirRecords }
 {
     Reader::new(file).count()

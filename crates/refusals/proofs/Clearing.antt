@@ -27,16 +27,6 @@ when_none false x h = refl
 pub none_when : {A : Type 0} (b : Bool) (x : A) → b ≡ false → when b x ≡ None
 none_when b x h = ap (λ c. when c x) h
 
-pub not-false : (b : Bool) → not b ≡ false → b ≡ true
-not-false true h = refl
-not-false false h = sym h
-
-pub leb_false : (m n : ℕ) → leb m n ≡ false → n < m
-leb_false m n h = ⊎_elim
-    (λ (l : n < m). l)
-    (λ (l : m ≤ n). let z : true ≡ false = sym (le-leb m n l) ∙ h in let y : ◌≡◌ {A = ℕ} 0 1 = cc in absurd (omega arith))
-    (cases_lt n m)
-
 -- rows behind others
 pub first_append : {A : Type 0} (xs ys : List (Option A)) → first (xs ++ ys) ≡ otherwise (first xs) (first ys)
 first_append [] ys = refl

@@ -1,5 +1,5 @@
 -- A call checks row by row, in the order of its table, and returns the first refusal that it meets.
-use Rattle.std.specs.Prelude.{Bool, true, false, List, [], ◌∷◌, Some, None, Option}
+use Rattle.std.specs.Prelude.{◌≡◌, Bool, true, false, List, [], ◌∷◌, Some, None, Ok, Err, Option, Result}
 
 -- x, if the test is met
 abbrev pub when : {A : Type 0} → Bool → A → Option A
@@ -20,3 +20,8 @@ first (x ∷ xs) = otherwise x (first xs)
 abbrev pub with : {A B : Type 0} → (A → B) → Option A → Option B
 with f None = None
 with f (Some x) = Some (f x)
+
+-- a check is passed if no row refuses; else it returns the first that does
+abbrev pub Passed : {A : Type 0} → List (Option A) → Result (Unit {0}) A → Type 0
+Passed rows (Ok u) = first rows ≡ None
+Passed rows (Err x) = first rows ≡ Some x

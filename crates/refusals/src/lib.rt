@@ -1,5 +1,7 @@
 #![tactic(auto)]
 
+pub mod checks;
+
 ghost use Rattle.std.specs.Prelude.{◌≡◌};
 ghost use Rattle.refusals.specs.Table.{returned};
 

@@ -7,8 +7,8 @@ use Rattle.bits.proofs.BitFacts.{has_past}
 use Rattle.labels.specs.Labels.{Row, next_from}
 use Rattle.labels.proofs.LeastFacts.{least_all, least_some}
 use Rattle.labels.proofs.RowFacts.{inserted_has}
-use Rattle.schemas.specs.Tests.{some_below}
-use Rattle.schemas.proofs.SomeBelow.{some_none, some_rest, some_more}
+use Rattle.bits.specs.Below.{some_below}
+use Rattle.bits.proofs.SomeBelow.{some_none, some_rest, some_more}
 
 -- one number put into a row of sixteen words
 pub has_put : (row new : List ℕ) (m : ℕ) → length row ≡ 16 → new ≡ inserted row m → (c : ℕ) → has new c ≡ (has row c || (ltb c 1024 && eqb m c))

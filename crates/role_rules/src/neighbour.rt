@@ -3,7 +3,7 @@ ghost use Rattle.bits.specs.Bits.{has};
 ghost use Rattle.labels.specs.Labels.{Row};
 ghost use Rattle.vocabulary.specs.Vocabularies.{is_axiom};
 ghost use Rattle.schemas.specs.House.{passes, carries, gives, neighbour};
-ghost use Rattle.schemas.specs.Tests.{some_below};
+ghost use Rattle.bits.specs.Below.{some_below};
 ghost use Rattle.schemas.proofs.Agreement.{neighbour_lawful};
 
 use crate::members::Members;

@@ -1,5 +1,5 @@
 -- A rule whose tests say no more than the table is lawful, and so is the house.
-use Rattle.std.proofs.Common.{◌≡◌, ℕ, ◌-◌, ◌<◌, ◌≤◌, Bool, true, false, cond, ◌&&◌, ◌||◌, eqb, ltb, List, length, get_or, sym, refl, subst, arith}
+use Rattle.std.proofs.Common.{◌≡◌, ℕ, ◌-◌, ◌<◌, ◌≤◌, Bool, true, false, ◌&&◌, ◌||◌, eqb, ltb, List, length, get_or, sym, refl, subst, arith}
 use Rattle.std.proofs.lemmas.Bool.{and_parts, eqb-true, ltb-true}
 use Rattle.bits.specs.Bits.{has}
 use Rattle.vocabulary.specs.declared.Vocabulary.{Vocabulary}
@@ -10,9 +10,10 @@ use Rattle.calculus.specs.Schemas.{Schema, Lawful}
 use Rattle.calculus.specs.Calculi.{Calculus, alone, beside}
 use Rattle.schemas.specs.Table.{Applies, Concludes, Lists, conclusions}
 use Rattle.schemas.specs.House.{schema, bottom, clash, conjunction, disjunction, narrower, general, cut, inverse_cut, transitive_cut, neighbour}
-use Rattle.schemas.proofs.Entries.{never}
+use Rattle.bits.proofs.Tests.{never}
 use Rattle.schemas.proofs.Soundness.{step_goes}
 use Rattle.schemas.proofs.FromTests.{takes_1, takes_2, takes_3, takes_4, takes_5, takes_6, takes_7, takes_8, takes_9, takes_10, has_3, has_4, has_5, has_6, has_7, has_8, has_9, has_10}
+use Rattle.calculus.specs.Banks.{either_taken}
 
 -- the tests of one rule say no more than the table
 pub record Agrees (r : Schema) : Type 0 where
@@ -23,7 +24,7 @@ pub record Agrees (r : Schema) : Type 0 where
 
 module _ (n cites : ℕ) (applies : Vocabulary → Principals → List ℕ → Bool) (lists : Vocabulary → Principals → List ℕ → ℕ → ℕ → Bool) where
   -- what it says of a conclusion
-  concluded : (v : Vocabulary) (on : Principals) (x : List ℕ) (i c : ℕ) → (schema n cites applies lists).concludes v on x i c ≡ true
+  pub concluded : (v : Vocabulary) (on : Principals) (x : List ℕ) (i c : ℕ) → (schema n cites applies lists).concludes v on x i c ≡ true
       → (i < cites) × (applies v on x ≡ true) × (c < 1024) × (c < length (concepts v)) × (lists v on x i c ≡ true)
   concluded v on x i c h =
       let (a, b) = and_parts (ltb i cites && applies v on x) _ h in
@@ -138,14 +139,10 @@ either_has : (a b : Bool) (P : Type 0) → (a ≡ true → P) → (b ≡ true �
 either_has true b P f g h = f refl
 either_has false b P f g h = g h
 
-either_way : (z a b : Bool) (P : Type 0) → (a ≡ true → P) → (b ≡ true → P) → cond z a b ≡ true → P
-either_way true a b P f g h = f h
-either_way false a b P f g h = g h
-
 pub beside_agrees : (a b : Calculus) → AllAgree a → AllAgree b → AllAgree (beside a b)
 beside_agrees a b f g = record {
   all_of_ten = λ n. either_has (a.has n) (b.has n) _ (f.all_of_ten n) (g.all_of_ten n);
-  all_steps = λ v keeps n on x. either_way (a.has n) (a.applies n v on x) (b.applies n v on x) _ (f.all_steps v keeps n on x) (g.all_steps v keeps n on x);
-  all_lines = λ v keeps n on x i c. either_way (a.has n) (a.concludes n v on x i c) (b.concludes n v on x i c) _
+  all_steps = λ v keeps n on x. either_taken (a.has n) (a.applies n v on x) (b.applies n v on x) _ (f.all_steps v keeps n on x) (g.all_steps v keeps n on x);
+  all_lines = λ v keeps n on x i c. either_taken (a.has n) (a.concludes n v on x i c) (b.concludes n v on x i c) _
       (f.all_lines v keeps n on x i c) (g.all_lines v keeps n on x i c);
 }

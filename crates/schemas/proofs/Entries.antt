@@ -1,26 +1,25 @@
 -- The tests of concepts, mates, roles and axioms say what the relations say.
-use Rattle.std.proofs.Common.{◌≡◌, ℕ, ◌/◌, ◌<◌, ◌≤◌, Bool, true, false, cond, T, eqb, ltb, length, get_or, Some, None, Option, refl, ap, ◌∙◌, ⊎_elim, arith}
+use Rattle.std.proofs.Common.{◌≡◌, ℕ, ◌/◌, ◌<◌, ◌≤◌, Bool, true, false, cond, eqb, ltb, length, get_or, Some, None, refl, ap, ◌∙◌, ⊎_elim, arith}
 use mathlib.Core.List.{Memᴰ}
-use Rattle.std.proofs.lemmas.Bool.{and_parts, and_from, eqb-true, eq-eqb, ltb-true, lt-ltb, cases_lt, both_ways}
+use Rattle.std.proofs.lemmas.Bool.{and_parts, and_from, eqb-true, ltb-true, lt-ltb, cases_lt, both_ways}
 use Rattle.std.proofs.lemmas.Float.{T_from_true}
 use Rattle.bits.specs.Bits.{bit}
 use Rattle.bits.proofs.BitFacts.{has_past}
 use Rattle.logic.specs.declared.concept.Concept.{Concept}
 use Rattle.logic.specs.declared.concept.Concept.TheVariants.{Top, Bottom, Name, NotName, And, Or, Only, Exists}
-use Rattle.logic.specs.Concepts.{At, tag, first, second}
+use Rattle.logic.specs.Concepts.{At, tag, first_number, second_number}
 use Rattle.logic.specs.Roles.{Below, Transitive}
 use Rattle.closure.specs.Closure.{cell}
 use Rattle.vocabulary.specs.declared.Vocabulary.{Vocabulary}
 use Rattle.vocabulary.specs.declared.mates.Mates.{Mates}
-use Rattle.vocabulary.specs.Mates.{mate, is, are_mates}
+use Rattle.vocabulary.specs.Mates.{mate, are_mates}
 use Rattle.vocabulary.specs.Pairing.{AreMates}
 use Rattle.vocabulary.specs.Roles.{role_axioms, is_below, is_transitive}
 use Rattle.vocabulary.specs.Keeping.{Kept}
 use Rattle.vocabulary.specs.Vocabularies.{concepts, concept_at, axioms, is_axiom}
 use Rattle.schemas.specs.Tests.{tagged, first_of, second_of}
-
-pub never : {A : Type 0} → false ≡ true → A
-never h = let z : ◌≡◌ {A = ℕ} 0 1 = cc in absurd (omega arith)
+use Rattle.bits.proofs.Tests.{never, T_true}
+use Rattle.vocabulary.proofs.Pairings.{is_some, some_is}
 
 -- the concept with this tag and these numbers
 abbrev pub made_of : ℕ → ℕ → ℕ → Concept
@@ -28,7 +27,7 @@ made_of t a b =
     cond (eqb t 1) Bottom (cond (eqb t 2) (Name a) (cond (eqb t 3) (NotName a)
     (cond (eqb t 4) (And a b) (cond (eqb t 5) (Or a b) (cond (eqb t 6) (Only a b) (cond (eqb t 7) (Exists a b) Top))))))
 
-made_again : (k : Concept) → k ≡ made_of (tag k) (first k) (second k)
+made_again : (k : Concept) → k ≡ made_of (tag k) (first_number k) (second_number k)
 made_again Top = refl
 made_again Bottom = refl
 made_again (Name a) = refl
@@ -47,28 +46,17 @@ tagged_at v c t h = go (ltb c (length (concepts v))) refl h
 
     go : (b : Bool) → ltb c (length (concepts v)) ≡ b → tagged t (cond b (Some k) None) ≡ true
         → At (concepts v) c (made_of t (first_of (cond (ltb c (length (concepts v))) (Some k) None)) (second_of (cond (ltb c (length (concepts v))) (Some k) None)))
-    go true e q = rw e (ltb-true c (length (concepts v)) e, made_again k ∙ ap (λ n. made_of n (first k) (second k)) (eqb-true (tag k) t q))
+    go true e q = rw e (ltb-true c (length (concepts v)) e, made_again k ∙ ap (λ n. made_of n (first_number k) (second_number k)) (eqb-true (tag k) t q))
     go false e q = never q
 
-pub at_is : (v : Vocabulary) (c : ℕ) (k : Concept) → At (concepts v) c k → concept_at v c ≡ Some k
-at_is v c k a = rw (lt-ltb c (length (concepts v)) a.0) (ap (λ x. Some x) a.1)
-
 -- mates
-is_some : (o : Option ℕ) (d : ℕ) → is o d ≡ true → o ≡ Some d
-is_some None d h = never h
-is_some (Some m) d h = ap (λ x. Some x) (eqb-true m d h)
-
 pub true_mates : (m : Mates) (c d : ℕ) → are_mates m c d ≡ true → AreMates m c d
 true_mates m c d h = is_some (mate m c) d h
 
 pub mates_true : (m : Mates) (c d : ℕ) → AreMates m c d → are_mates m c d ≡ true
-mates_true m c d h = ap (λ x. is x d) h ∙ eq-eqb d d refl
+mates_true m c d h = some_is (mate m c) d h
 
 -- roles
-T_true : (b : Bool) → T b → b ≡ true
-T_true true h = refl
-T_true false h = absurd h
-
 module _ (v : Vocabulary) (kept : Kept v) where
   pub true_below : (r s : ℕ) → is_below v.roles r s ≡ true → Below (role_axioms v.roles) r s
   true_below r s h =

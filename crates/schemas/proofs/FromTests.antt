@@ -14,10 +14,13 @@ use Rattle.vocabulary.specs.Vocabularies.{concepts, concept_at, is_axiom}
 use Rattle.calculus.specs.declared.rule.Principals.{Principals}
 use Rattle.calculus.specs.Premises.{p_alone}
 use Rattle.schemas.specs.Table.{Applies, bottom, clash, conjunction, disjunction, narrower, general, cut, inverse_cut, transitive_cut, neighbour, conclusions, Lists, kept, first_part, second_part, first_case, second_case, the_narrower, the_general, cut_p, cut_q, inverse_p, inverse_q, inverse_s, transitive_p, transitive_q, transitive_s, asked, passed, carried, of_all}
-use Rattle.schemas.specs.Tests.{tagged, first_of, second_of, some_below}
+use Rattle.schemas.specs.Tests.{tagged, first_of, second_of}
+use Rattle.bits.specs.Below.{some_below}
 use Rattle.schemas.specs.House.{p_or_q_s, passes, carries, gives, bottom as bottom-rule, clash as clash-rule, conjunction as conjunction-rule, disjunction as disjunction-rule, narrower as narrower-rule, general as general-rule, cut as cut-rule, inverse_cut as inverse-cut-rule, transitive_cut as transitive-cut-rule, neighbour as neighbour-rule}
-use Rattle.schemas.proofs.Entries.{never, tagged_at, true_mates, true_below, true_transitive, true_axiom}
-use Rattle.schemas.proofs.SomeBelow.{some_there}
+use Rattle.schemas.proofs.Entries.{tagged_at, true_mates, true_below, true_transitive, true_axiom}
+use Rattle.bits.proofs.Tests.{never, T_true}
+use Rattle.bits.proofs.SomeBelow.{some_there}
+use Rattle.std.proofs.lemmas.Float.{T_from_true}
 
 among_one : (a c : ℕ) → among (a ∷ []) c ≡ true → a ≡ c
 among_one a c h = ⊎_elim (eqb-true a c) never (or_cases (eqb a c) false h)
@@ -199,8 +202,8 @@ module _ (v : Vocabulary) (keeps : Kept v) (on : Principals) (x : List ℕ) wher
       (λ e. subst (λ (d : ℕ). Has 10 0 d) (eqb-true (second_of k) c e) (asked (tagged_at v on.p 7 (p_is 7 h))))
       (λ a. of_all (true_axiom v keeps c a))
       (or_cases (eqb (second_of k) c) (is_axiom v c) w))
-      (λ w. let (d, _, g) = some_there 1024 (λ d. has x d && gives v (first_of k) d c) w in
-      let (i, t) = and_parts (has x d) (gives v (first_of k) d c) g in
+      (λ w. let (d, _, g) = some_there 1024 (λ d. has x d && gives v (first_of k) d c) (T_from_true _ w) in
+      let (i, t) = and_parts (has x d) (gives v (first_of k) d c) (T_true _ g) in
       gives_10 h d c i t)
       (or_cases (eqb (second_of k) c || is_axiom v c) _ r)
   has_10 h (suc i) c l r = absurd (omega arith)

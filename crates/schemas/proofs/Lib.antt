@@ -1,5 +1,4 @@
 pub mod Entries
-pub mod SomeBelow
 pub mod Soundness
 pub mod FromTests
 pub mod ToTests

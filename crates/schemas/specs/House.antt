@@ -11,7 +11,8 @@ use Rattle.calculus.specs.declared.rule.Principals.{Principals}
 use Rattle.calculus.specs.Premises.{p_alone}
 use Rattle.calculus.specs.Schemas.{Schema}
 use Rattle.calculus.specs.Calculi.{Calculus, alone, beside}
-use Rattle.schemas.specs.Tests.{tagged, first_of, second_of, some_below}
+use Rattle.schemas.specs.Tests.{tagged, first_of, second_of}
+use Rattle.bits.specs.Below.{some_below}
 
 -- A rule by its number, how many lines it cites, when a step applies, and what conclusion i lists. Nothing is in a conclusion of a
 -- step that doesn't apply, nor past the last conclusion, and only standing concepts are in one.

@@ -3,7 +3,7 @@ use Rattle.std.proofs.Common.{◌≡◌, ℕ, zero, suc, ◌*◌, ◌<◌, ◌�
 use mathlib.Core.List.Memᴰ
 use mathlib.Core.List.{Memᴰ}
 use Rattle.std.proofs.lemmas.List.{get_or_append_left, get_or_push, length_push, length-replicate}
-use Rattle.std.proofs.lemmas.Bool.{cases_eq, cases_lt, lt-ltb, eqb-true, eq-eqb}
+use Rattle.std.proofs.lemmas.Bool.{cases_eq, cases_lt, lt-ltb, eqb-true, eq-eqb, or_cases, or_left, or_right}
 use Rattle.bits.specs.Bits.{has, inserted}
 use Rattle.bits.proofs.BitFacts.{has_inserted, length_inserted, has_zeros}
 use Rattle.register.specs.References.{Ordered}
@@ -21,7 +21,7 @@ use Rattle.vocabulary.specs.Mates.{mate, Joined}
 use Rattle.vocabulary.specs.Vocabularies.{concepts, axioms, New, ConceptFiled, RolesFiled, AxiomFiled, Paired}
 use Rattle.vocabulary.specs.Pairing.{AreMates}
 use Rattle.vocabulary.specs.Keeping.{InRange, MatesKept, Kept}
-use Rattle.vocabulary.proofs.Pairings.{or_cases, or_left, or_right, pairable_is_decided, negates_opposite}
+use Rattle.vocabulary.proofs.Pairings.{pairable_is_decided, negates_opposite}
 
 -- a new vocabulary
 none_there : (n c d : ℕ) → get_or (replicate n None) c None ≡ Some d → ⊥

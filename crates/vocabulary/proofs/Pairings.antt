@@ -1,6 +1,6 @@
 -- The test for pairing is right, and what it admits are opposites.
-use Rattle.std.proofs.Common.{◌≡◌, ℕ, Bool, true, false, ◌&&◌, ◌||◌, eqb, ltb, ◌⊎◌, List, length, get_or, Some, None, Option, sym, refl, ap, ◌∙◌, subst, inl, inr, ⊎_elim, arith}
-use Rattle.std.proofs.lemmas.Bool.{and_parts, and_from, eqb-true, eq-eqb, ltb-true, lt-ltb}
+use Rattle.std.proofs.Common.{◌≡◌, ℕ, Bool, true, false, ◌&&◌, ◌||◌, eqb, ltb, List, length, get_or, Some, None, Option, sym, refl, ap, ◌∙◌, subst, ⊎_elim, arith}
+use Rattle.std.proofs.lemmas.Bool.{and_parts, and_from, eqb-true, eq-eqb, ltb-true, lt-ltb, or_cases, or_left}
 use Rattle.logic.specs.declared.concept.Concept.{Concept}
 use Rattle.logic.specs.declared.concept.Concept.TheVariants.{Top, Bottom, Name, NotName, And, Or, Only, Exists}
 use Rattle.logic.specs.Concepts.{At}
@@ -10,32 +10,18 @@ use Rattle.vocabulary.specs.declared.mates.Mates.{Mates}
 use Rattle.vocabulary.specs.Mates.{mate, is, are_mates}
 use Rattle.vocabulary.specs.Vocabularies.{concepts, concept_at, opposed, single, both_opposed, pairable}
 use Rattle.vocabulary.specs.Pairing.{AreMates, Negates, top_bottom, name_not_name, and_or, only_exists, swapped, Pairable, PairableIsDecided}
-
-never : {A : Type 0} → false ≡ true → A
-never h = let z : ◌≡◌ {A = ℕ} 0 1 = cc in absurd (omega arith)
-
-pub or_cases : (a b : Bool) → (a || b) ≡ true → (a ≡ true) ⊎ (b ≡ true)
-or_cases true b h = inl refl
-or_cases false b h = inr h
-
-pub or_left : (a b : Bool) → a ≡ true → (a || b) ≡ true
-or_left true b h = refl
-or_left false b h = never h
-
-pub or_right : (a b : Bool) → b ≡ true → (a || b) ≡ true
-or_right true b h = refl
-or_right false b h = h
+use Rattle.bits.proofs.Tests.{never}
 
 or_swap : (a b : Bool) → (a || b) ≡ true → (b || a) ≡ true
 or_swap a true h = refl
 or_swap true false h = refl
 or_swap false false h = h
 
-is_some : (o : Option ℕ) (d : ℕ) → is o d ≡ true → o ≡ Some d
+pub is_some : (o : Option ℕ) (d : ℕ) → is o d ≡ true → o ≡ Some d
 is_some None d h = never h
 is_some (Some m) d h = ap (λ x. Some x) (eqb-true m d h)
 
-some_is : (o : Option ℕ) (d : ℕ) → o ≡ Some d → is o d ≡ true
+pub some_is : (o : Option ℕ) (d : ℕ) → o ≡ Some d → is o d ≡ true
 some_is o d h = ap (λ x. is x d) h ∙ eq-eqb d d refl
 
 -- from the test to the relation
@@ -105,7 +91,7 @@ found_at v c k h = go (ltb c (length (concepts v))) refl
     go true e = let l = ltb-true c (length (concepts v)) (sym e) in (l, let s = lt-ltb c (length (concepts v)) l in let q : Some (get_or (concepts v) c Top) ≡ Some k = rw s at h in cc)
     go false e = let q : None ≡ Some k = rw (← e) at h in let z : ◌≡◌ {A = ℕ} 0 1 = cc in absurd (omega arith)
 
-at_found : (v : Vocabulary) (c : ℕ) (k : Concept) → At (concepts v) c k → concept_at v c ≡ Some k
+pub at_found : (v : Vocabulary) (c : ℕ) (k : Concept) → At (concepts v) c k → concept_at v c ≡ Some k
 at_found v c k a = rw (lt-ltb c (length (concepts v)) a.0) (ap (λ x. Some x) a.1)
 
 pub pairable_is_decided : PairableIsDecided

@@ -1,5 +1,5 @@
 -- The tables of the roles go on saying what the role axioms say.
-use Rattle.std.proofs.Common.{◌≡◌, ℕ, ◌*◌, ◌/◌, ◌%◌, ◌^◌, ◌<◌, Bool, true, false, ◌||◌, T, ◌⊎◌, ◌↔◌, List, [], ◌∷◌, ◌++◌, sym, ap, subst, inl, inr, ⊎_elim, arith}
+use Rattle.std.proofs.Common.{◌≡◌, ℕ, ◌*◌, ◌/◌, ◌%◌, ◌^◌, ◌<◌, T, ◌⊎◌, ◌↔◌, List, [], ◌∷◌, ◌++◌, sym, ap, subst, inl, inr, ⊎_elim, arith}
 use mathlib.Core.List.Memᴰ
 use mathlib.Core.List.{Memᴰ}
 use lib.Bits.{bit_or}
@@ -14,6 +14,7 @@ use Rattle.closure.specs.Closure.{Exact}
 use Rattle.closure.proofs.Exactness.{exact_transitivity}
 use Rattle.vocabulary.specs.declared.roles.Roles.{Roles}
 use Rattle.vocabulary.specs.Roles.{role_axioms, RolesKept}
+use Rattle.bits.proofs.Tests.{or_out, or_left, or_right}
 
 module _ (axioms : List RoleAxiom) (a : RoleAxiom) where
   pub names_more : (n : ℕ) → AllNameBelow n axioms → NamesBelow n a → AllNameBelow n (axioms ++ a ∷ [])
@@ -48,15 +49,6 @@ transitive_inclusion names axioms r s kept x l = (
     no_name : {y : ℕ} → Inclusion r s ≡ Transitivity y → T (bit names (x / 2))
     no_name e = let z : ◌≡◌ {A = ℕ} 0 1 = cc in absurd (omega arith)
 
-or_T : (a b : Bool) → T (a || b) → T a ⊎ T b
-or_T true b h = inl tt
-or_T false b h = inr h
-
-T_or : (a b : Bool) → T a ⊎ T b → T (a || b)
-T_or true b h = tt
-T_or false b (inl h) = absurd h
-T_or false b (inr h) = h
-
 -- bit j of 2 ^ k
 power_bit : (k j : ℕ) → T (bit (2 ^ k) j) → k ≡ j
 power_bit k j h = ⊎_elim (λ (e : j ≡ k). sym e) (λ (d : j ≡ k → ⊥). absurd (subst T (bit_pow_other j k d) h)) (cases_eq j k)
@@ -78,11 +70,13 @@ transitive_more names axioms r lr kept x l = rw (one_shl (r / 2) 64 (omega arith
     forth h = ⊎_elim
         (λ k. still_transitive axioms (Transitivity r) x ((kept x l).0 k))
         (λ k. named_transitive axioms (Transitivity r) x (same_name (power_bit (r / 2) (x / 2) k)))
-        (or_T (bit names (x / 2)) (bit (2 ^ (r / 2)) (x / 2)) (subst T (bit-bit_or names (2 ^ (r / 2)) (x / 2)) h))
+        (or_out (bit names (x / 2)) (bit (2 ^ (r / 2)) (x / 2)) (subst T (bit-bit_or names (2 ^ (r / 2)) (x / 2)) h))
 
     back : Transitive (axioms ++ Transitivity r ∷ []) x → T (bit (bit_or names (2 ^ (r / 2))) (x / 2))
-    back h = subst T (sym (bit-bit_or names (2 ^ (r / 2)) (x / 2))) (T_or (bit names (x / 2)) (bit (2 ^ (r / 2)) (x / 2))
-        (⊎_elim (λ k. inl ((kept x l).1 k)) (λ e. inr (rw (its_name e) (subst T (sym (pow_same (x / 2))) tt))) (now_transitive axioms (Transitivity r) x h)))
+    back h = subst T (sym (bit-bit_or names (2 ^ (r / 2)) (x / 2))) (⊎_elim
+        (λ k. or_left (bit names (x / 2)) (bit (2 ^ (r / 2)) (x / 2)) ((kept x l).1 k))
+        (λ e. or_right (bit names (x / 2)) (bit (2 ^ (r / 2)) (x / 2)) (rw (its_name e) (subst T (sym (pow_same (x / 2))) tt)))
+        (now_transitive axioms (Transitivity r) x h))
 
 -- x becomes y by the axiom a more
 module _ (x y : Roles) (a : RoleAxiom) (fit : NamesBelow 128 a) (more : role_axioms y ≡ role_axioms x ++ a ∷ []) where

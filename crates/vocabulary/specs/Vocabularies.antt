@@ -6,7 +6,7 @@ use Rattle.bits.specs.Bits.{has}
 use Rattle.logic.specs.declared.concept.Concept.{Concept}
 use Rattle.logic.specs.declared.concept.Concept.TheVariants.{Top}
 use Rattle.logic.specs.declared.role.RoleAxiom.{RoleAxiom}
-use Rattle.logic.specs.Concepts.{parts, tag, first, second}
+use Rattle.logic.specs.Concepts.{parts, tag, first_number, second_number}
 use Rattle.vocabulary.specs.declared.Vocabulary.{Vocabulary}
 use Rattle.vocabulary.specs.declared.mates.Mates.{Mates}
 use Rattle.vocabulary.specs.Mates.{mate, are_mates, Joined}
@@ -55,9 +55,9 @@ AxiomFiled v w c r = AxiomAdded v.axioms w.axioms c r × (w.roles ≡ v.roles) �
 abbrev pub opposed : Mates → Concept → Concept → Bool
 opposed m j k =
     cond (tag j == 0) (tag k == 1)
-    (cond (tag j == 2) (tag k == 3 && first j == first k)
-    (cond (tag j == 4) (tag k == 5 && (are_mates m (first j) (first k) && are_mates m (second j) (second k)))
-    (cond (tag j == 6) (tag k == 7 && (first j == first k && are_mates m (second j) (second k)))
+    (cond (tag j == 2) (tag k == 3 && first_number j == first_number k)
+    (cond (tag j == 4) (tag k == 5 && (are_mates m (first_number j) (first_number k) && are_mates m (second_number j) (second_number k)))
+    (cond (tag j == 6) (tag k == 7 && (first_number j == first_number k && are_mates m (second_number j) (second_number k)))
     false)))
 
 abbrev pub single : Option ℕ → Bool

@@ -2,13 +2,14 @@ ghost use Rattle.std.specs.Prelude.{◌≡◌, [], replicate};
 ghost use Rattle.bits.specs.Bits.{has};
 ghost use Rattle.vocabulary.specs.Axioms.{AxiomAdded};
 
+use crate::MOST_AXIOMS;
 use bits;
 use register::bounded::Bounded;
 
 /// The concepts that were filed as holding of every element.
 #[derive(Drop)]
 pub struct Axioms {
-    list: Bounded<u16, 256>,
+    list: Bounded<u16, MOST_AXIOMS>,
     // a bit for each concept of the list, so that asking for one is a look and no search
     row: [u64; 16],
 }

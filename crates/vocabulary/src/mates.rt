@@ -1,13 +1,12 @@
 ghost use Rattle.std.specs.Prelude.{◌≡◌, replicate, None};
 ghost use Rattle.vocabulary.specs.Mates.{mate, are_mates, Joined};
 
-/// How many concepts there can be.
-pub const CONCEPTS: usize = 1024;
+use crate::MOST_CONCEPTS;
 
 /// Which concepts are mates: paired concepts, each the complement of the other.
 #[derive(Drop)]
 pub struct Mates {
-    of: [Option<u16>; 1024],
+    of: [Option<u16>; MOST_CONCEPTS],
 }
 
 impl Mates {
@@ -15,7 +14,7 @@ impl Mates {
     pub fn new() -> Mates
         ensures { result.of ≡ replicate 1024 None }
     {
-        Mates { of: [None; 1024] }
+        Mates { of: [None; MOST_CONCEPTS] }
     }
 
     /// The mate of a concept, if it has one.
@@ -36,7 +35,7 @@ impl Mates {
     pub fn join(&mut self, c: u16, d: u16)
         ensures { Joined self.old self.new c d }
     {
-        if (c as usize) < CONCEPTS && (d as usize) < CONCEPTS {
+        if (c as usize) < MOST_CONCEPTS && (d as usize) < MOST_CONCEPTS {
             self.of[c as usize] = Some(d);
             self.of[d as usize] = Some(c);
         }

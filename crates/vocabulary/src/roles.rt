@@ -2,6 +2,7 @@ ghost use Rattle.std.specs.Prelude.{◌≡◌, ◌&&◌, []};
 ghost use Rattle.logic.specs.Roles.{NamesBelow};
 ghost use Rattle.vocabulary.specs.Roles.{role_axioms, is_below, is_transitive, RolesKept, RoleAxiomFiled};
 
+use crate::MOST_AXIOMS;
 use bits::bit;
 use closure;
 use logic::role::{ROLES, RoleAxiom};
@@ -10,7 +11,7 @@ use register::bounded::Bounded;
 /// The role axioms, with what they say of every two roles kept at hand.
 #[derive(Drop)]
 pub struct Roles {
-    axioms: Bounded<RoleAxiom, 256>,
+    axioms: Bounded<RoleAxiom, MOST_AXIOMS>,
     // the closure of the inclusions: row r has a bit for each role that r is below
     below: [u64; 256],
     // a bit for each role name that is transitive; a role and its inverse are transitive together

@@ -1,13 +1,15 @@
 #![tactic(auto)]
 
-use anyhow::bail;
 use book::line::Line;
 use console::input::fill;
-use console::report::report;
-use docket::{Docket, MOST_CONCEPTS, MOST_LINES};
+use console::run::{Memory, serve};
+use docket::MOST_LINES;
 use intake::Reply;
 use logic::concept::Concept;
 use records::reader::count;
+use std::io;
+use std::io::BufWriter;
+use vocabulary::MOST_CONCEPTS;
 
 // The program `dossier` with the largest docket that can be opened, and room for its evidence: for comparing and for
 // measuring.
@@ -38,8 +40,13 @@ fn main(rt: HostRuntime) -> anyhow::Result<()> {
             answer: Ok(0),
         },
     )?;
-    let Ok(mut docket) = Docket::open(MOST_CONCEPTS, MOST_LINES, &mut concepts, &mut lines) else {
-        bail!("no docket of these capacities");
+    let mut output = BufWriter::new(rt.alloc(), io::writer(&rt))?;
+    let memory = Memory {
+        concepts: &mut concepts,
+        lines: &mut lines,
+        rows: &mut rows,
+        replies: &mut replies,
     };
-    report(&rt, &mut docket, file, &mut rows, &mut replies)
+    serve(file, &mut output, memory)?;
+    Ok(())
 }

@@ -1,5 +1,5 @@
 use Rattle.std.proofs.Common.{◌≤◌, length, sym, refl, ◌∙◌, subst, arith}
-use Rattle.records.proofs.Offsets.{lies_all, passed_none, passed_all}
+use Rattle.records.proofs.Offsets.{passed_none, passed_all}
 use Rattle.facts.proofs.Claims.{claims_are_right}
 use Rattle.facts.proofs.ThreeFacts.{three_facts}
 use Rattle.intake.proofs.Replies.{handed_room, handed_more, taken_all, taken_reached}
@@ -39,8 +39,8 @@ returns g c =
     let i = c.loop-i.i-iterator.iter.at in
     let h = c.loop-i.invariant in
     let end : length f ≤ i = subst (λ x. length x ≤ i) h.file c.in-None.ensures.steps.0.0 in
-    let (offsets, lie) = lies_all f 0 in
-    let total = c.count-total.ensures.counted offsets lie ∙ sym (passed_all f n i end h.passed offsets lie) in
+    let (offsets, lie, counted) = c.count-total.ensures.counted in
+    let total = counted ∙ sym (passed_all f n i end h.passed offsets lie) in
     let all = taken_all k f i c.args.docket.now c.loop-i.docket c.args.rows.now c.loop-i.rows _ end h.taken in
     record {
       taken = (c.count-total.ensures.counted, omega arith, rw total all, rw total h.behind);

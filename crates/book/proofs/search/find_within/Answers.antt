@@ -4,7 +4,7 @@ use Rattle.std.proofs.lemmas.Iterator.Search.{position_from_yields_List}
 use borrow.Author.Tests.{tests}
 use Rattle.labels.proofs.LeastFacts.{position_least}
 use Rattle.book.specs.declared.line.Line.{Line}
-use Rattle.book.specs.Lines.{blank, lies_within}
+use Rattle.book.specs.Lines.{blank_line, lies_within}
 use Rattle.book.proofs.search.find_within.Goals as goal
 
 pub returns : goal.returns
@@ -12,4 +12,4 @@ returns c =
     let ls = c.args.lines.now in
     let within = λ (l : Line). lies_within l.label c.args.x.now in
     position_from_yields_List within c.position.new.self _ c.position.result c.position.ensures.ran (YieldsList-from_slice ls cc) (λ x b q k. search (rules, tests))
-    ∙ position_least within ls blank
+    ∙ position_least within ls blank_line

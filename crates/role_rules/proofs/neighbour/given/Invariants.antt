@@ -3,7 +3,7 @@ use Rattle.bits.specs.Bits.{has}
 use Rattle.labels.specs.Labels.{Row}
 use Rattle.vocabulary.specs.Vocabularies.{is_axiom}
 use Rattle.schemas.specs.House.{gives}
-use Rattle.schemas.specs.Tests.{some_below}
+use Rattle.bits.specs.Below.{some_below}
 use Rattle.role_rules.proofs.neighbour.given.Given as goal
 
 abbrev pub invariant-loop-d : goal.invariant-loop-d

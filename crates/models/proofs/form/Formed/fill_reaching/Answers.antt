@@ -2,7 +2,7 @@ use Rattle.std.proofs.Common.{◌≡◌, ◌/◌, ◌<◌, ◌&&◌, eqb, sym, a
 use Rattle.rows.specs.Rows.{contains, turned}
 use Rattle.rows.proofs.RowFacts.{other_row}
 use Rattle.models.specs.Items.{edges_in, edge_at, source, target, edge_role, edge_source, edge_target}
-use Rattle.models.proofs.AnyFacts.{any_same}
+use Rattle.bits.proofs.SomeBelow.{some_same}
 use Rattle.models.proofs.PairFacts.{source_small, target_small}
 use Rattle.models.proofs.WalkFacts.{hits, row_as, walk_none, walk_insert, walk_skip, walk_all}
 use Rattle.models.proofs.form.Formed.fill_reaching.Goals as goal
@@ -53,5 +53,5 @@ returns c =
     let old = c.args.rows.now in
     let cleared = c.clear.new.rows in
     row_as _ _ _ _ _ (walk_all old cleared _ _ (hits es r c.args.outside (contains cleared c.args.b)) (edge_source es r) _ (edges_in es) c.clear.ensures c.loop-bytes.invariant (omega (arith, c.edge_chunks-bytes-items.ensures.many)))
-    (λ e h. any_same (edges_in es) _ _ (λ k l. ap (λ b. (eqb (edge_role es k) (r / 2) && turned c.args.outside b) && eqb (edge_source es r k) e)
+    (λ e h. some_same (edges_in es) _ _ (λ k l. ap (λ b. (eqb (edge_role es k) (r / 2) && turned c.args.outside b) && eqb (edge_source es r k) e)
     (other_row old cleared _ _ c.clear.ensures c.args.b (edge_target es r k) (omega arith) (target_small self.model.now self.formed r k l))))

@@ -1,6 +1,7 @@
 use Rattle.std.proofs.Common.{◌≡◌, ◌<◌, sym, ap, ◌∙◌, subst, arith}
 use Rattle.std.proofs.lemmas.Bool.{eq-eqb, ne_eqb}
-use Rattle.models.specs.Items.{any_below, edge_at, edges_in, source, target}
+use Rattle.models.specs.Items.{edge_at, edges_in, source, target}
+use Rattle.bits.specs.Below.{some_below}
 use Rattle.models.proofs.PairFacts.{source_small, target_small}
 use Rattle.models.proofs.TableFacts.{is_pair, table_none, table_skip, table_insert, table_leads}
 use Rattle.models.proofs.pairs.Pairs.of.Goals as goal
@@ -37,4 +38,4 @@ pub invariant_of-result : goal.invariant_of-result
 invariant_of-result c =
     let m = c.args.formed.model.now in
     let all : c.loop-bytes.bytes-index ≡ edges_in m.edges.now = omega (arith, c.edge_chunks-bytes-items.ensures.many) in
-    record { tabled = λ x z h l. c.loop-bytes.invariant x z h l ∙ ap (λ i. any_below i (is_pair m.edges.now c.args.role x z)) all ∙ table_leads m c.args.role x z }
+    record { tabled = λ x z h l. c.loop-bytes.invariant x z h l ∙ ap (λ i. some_below i (is_pair m.edges.now c.args.role x z)) all ∙ table_leads m c.args.role x z }

@@ -2,7 +2,8 @@ use Rattle.std.proofs.Common.{◌≡◌, ℕ, ◌&&◌, ◌||◌, eqb, ltb, leng
 use Rattle.bits.specs.Bits.{has}
 use Rattle.vocabulary.specs.Vocabularies.{concepts, concept_at, is_axiom}
 use Rattle.schemas.specs.House.{gives}
-use Rattle.schemas.specs.Tests.{first_of, second_of, some_below}
+use Rattle.schemas.specs.Tests.{first_of, second_of}
+use Rattle.bits.specs.Below.{some_below}
 use Rattle.schemas.proofs.Extending.{concluded_row, cut_row}
 use Rattle.role_rules.proofs.neighbour.NeighbourRuleRule.conclusion.Goals as goal
 

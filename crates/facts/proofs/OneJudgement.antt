@@ -1,8 +1,8 @@
--- A model is judged in one way.
+-- A model is judged in one way, whatever becomes of the working rows.
 use Rattle.std.proofs.Common.{◌≡◌, ℕ, ◌+◌, List, Some, None, Ok, Err, Result, refl, ap, ⊎_elim}
 use Rattle.std.proofs.lemmas.Bool.{cases_order}
 use Rattle.refusals.specs.declared.Refusal.{Refusal}
-use Rattle.refusals.specs.declared.Refusal.TheVariants.{Malformed, Phase, Range, Absent, Full, Order, Unpaired, Inapplicable, Unlicensed, Closed, Outside, Model as WrongModel, RoleAxiom as BrokenRoleAxiom, Axiom as MissedAxiom, Point as MissedByPoint}
+use Rattle.refusals.specs.declared.Refusal.TheVariants.{Model as WrongModel, RoleAxiom as BrokenRoleAxiom, Axiom as MissedAxiom, Point as MissedByPoint}
 use Rattle.logic.specs.declared.concept.Concept.{Concept}
 use Rattle.logic.specs.declared.role.RoleAxiom.{RoleAxiom}
 use Rattle.logic.specs.declared.role.RoleAxiom.TheVariants.{Inclusion}
@@ -40,40 +40,30 @@ one_flaw m k j (bad_edge s g b) (not_sized f) = absurd (f s)
 one_flaw m k j (bad_edge s g b) (bad_mark {i = i} t c) = absurd (none_fails _ _ i g c)
 one_flaw m k j (bad_edge {i = i} s g b) (bad_edge {i = i'} t h c) = ap (λ n. 1 + m.mark_count + n) (one_first _ _ i i' b c)
 
-module _ (roles : List RoleAxiom) (cs : List Concept) (listed label : List ℕ) (m : Model) (old new : List ℕ) where
-  broken_meets : (i : ℕ) → RoleAxiomBroken roles cs listed label m old new i → MeetsRoleAxioms (described m) roles → ⊥
+module _ (roles : List RoleAxiom) (cs : List Concept) (listed label : List ℕ) (m : Model) (old : List ℕ) where
+  broken_meets : {new : List ℕ} (i : ℕ) → RoleAxiomBroken roles cs listed label m old new i → MeetsRoleAxioms (described m) roles → ⊥
   broken_meets i b meets = b.first_broken.1 (meets _ (member_at (Inclusion 0 0) roles i b.first_broken.0))
 
-  missed_meets : (i : ℕ) → AxiomMissed roles cs listed label m old new i → Meets (described m) roles cs listed → ⊥
+  missed_meets : {new : List ℕ} (i : ℕ) → AxiomMissed roles cs listed label m old new i → Meets (described m) roles cs listed → ⊥
   missed_meets i a meets = a.first_missed.1 (meets.meets_axioms _ (member_at 0 listed i a.first_missed.0))
 
   -- the ways to judge a model
-  pub data Outcome : Result (Unit {0}) Refusal → Type 0 where
-    flawed : {k : ℕ} → FirstFlaw m k → Outcome (Err (WrongModel k))
-    broken : {i : ℕ} → RoleAxiomBroken roles cs listed label m old new i → Outcome (Err (BrokenRoleAxiom i))
-    missed : {i : ℕ} → AxiomMissed roles cs listed label m old new i → Outcome (Err (MissedAxiom i))
-    astray : {c : ℕ} → PointMissed roles cs listed label m old new c → Outcome (Err (MissedByPoint c))
-    fits : Satisfied roles cs listed label m old new → Outcome (Ok tt)
+  pub data Outcome (new : List ℕ) : Result (Unit {0}) Refusal → Type 0 where
+    flawed : {k : ℕ} → FirstFlaw m k → Outcome new (Err (WrongModel k))
+    broken : {i : ℕ} → RoleAxiomBroken roles cs listed label m old new i → Outcome new (Err (BrokenRoleAxiom i))
+    missed : {i : ℕ} → AxiomMissed roles cs listed label m old new i → Outcome new (Err (MissedAxiom i))
+    astray : {c : ℕ} → PointMissed roles cs listed label m old new c → Outcome new (Err (MissedByPoint c))
+    fits : Satisfied roles cs listed label m old new → Outcome new (Ok tt)
 
-  pub outcome : (r : Result (Unit {0}) Refusal) → JudgedBy roles cs listed label m old new r → Outcome r
+  pub outcome : {new : List ℕ} (r : Result (Unit {0}) Refusal) → JudgedBy roles cs listed label m old new r → Outcome new r
   outcome (Ok u) j = fits j
   outcome (Err (WrongModel k)) j = flawed j.0
   outcome (Err (BrokenRoleAxiom i)) j = broken j
   outcome (Err (MissedAxiom i)) j = missed j
   outcome (Err (MissedByPoint c)) j = astray j
-  outcome (Err (Malformed n)) j = absurd j
-  outcome (Err Phase) j = absurd j
-  outcome (Err (Range n)) j = absurd j
-  outcome (Err (Absent n)) j = absurd j
-  outcome (Err (Full n)) j = absurd j
-  outcome (Err (Order n)) j = absurd j
-  outcome (Err Unpaired) j = absurd j
-  outcome (Err (Inapplicable n)) j = absurd j
-  outcome (Err (Unlicensed n)) j = absurd j
-  outcome (Err (Closed n)) j = absurd j
-  outcome (Err (Outside n)) j = absurd j
+  outcome (Err other) j = absurd j
 
-  pub one_outcome : (r s : Result (Unit {0}) Refusal) → Outcome r → Outcome s → r ≡ s
+  pub one_outcome : {new other : List ℕ} (r s : Result (Unit {0}) Refusal) → Outcome new r → Outcome other s → r ≡ s
   one_outcome r s (flawed {k = k} f) (flawed {k = j} g) = ap (λ n. Err (WrongModel n)) (one_flaw m k j f g)
   one_outcome r s (flawed {k = k} f) (broken x) = absurd (flaw_formed m k f x.formed)
   one_outcome r s (flawed {k = k} f) (missed x) = absurd (flaw_formed m k f x.formed)

@@ -1,7 +1,15 @@
 -- Tests that are passed.
-use Rattle.std.proofs.Common.{◌≡◌, ℕ, Bool, not, ◌&&◌, ◌||◌, T, eqb, ◌⊎◌, subst, arith}
+use Rattle.std.proofs.Common.{◌≡◌, ℕ, Bool, true, false, ◌&&◌, ◌||◌, T, eqb, ◌⊎◌, refl, subst, arith}
+use Rattle.std.proofs.lemmas.Bool.{false≢true}
 use Rattle.std.proofs.lemmas.Grind.{common_steps}
 use lib.Dec.{eqb_refl}
+
+pub never : {A : Type 0} → false ≡ true → A
+never h = absurd (false≢true h)
+
+pub T_true : (b : Bool) → T b → b ≡ true
+T_true true h = refl
+T_true false h = absurd h
 
 pub and_out : (a b : Bool) → T (a && b) → T a × T b
 and_out a b h = grind (arith, common_steps)
@@ -20,10 +28,3 @@ or_right a b h = grind (arith, common_steps)
 
 pub eq_T : (a b : ℕ) → a ≡ b → T (eqb a b)
 eq_T a b e = subst (λ x. T (eqb a x)) e (eqb_refl a)
-
--- two tests that are passed together are the same
-pub same_test : (a b : Bool) → (T a → T b) → (T b → T a) → a ≡ b
-same_test a b f g = grind (arith, common_steps)
-
-pub either_way : (b : Bool) → T b ⊎ T (not b)
-either_way b = grind (arith, common_steps)

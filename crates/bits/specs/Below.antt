@@ -1,0 +1,6 @@
+-- Whether some number below a bound passes a test.
+use Rattle.std.specs.Prelude.{ℕ, zero, suc, Bool, false, ◌||◌}
+
+unfoldable pub some_below : ℕ → (ℕ → Bool) → Bool
+some_below zero f = false
+some_below (suc n) f = some_below n f || f n

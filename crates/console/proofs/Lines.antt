@@ -1,0 +1,24 @@
+-- The lines of a report, one by one.
+use Rattle.std.proofs.Common.{◌≡◌, ℕ, ◌+◌, ◌<◌, List, [], ◌∷◌, ◌++◌, length, take, get_or, sym, ap, ◌∙◌, append_assoc, append-nil, arith}
+use Rattle.std.proofs.lemmas.List.{take_more, length-take-le}
+use Rattle.intake.specs.declared.Reply.{Reply}
+use Rattle.console.specs.Reports.{reply_line, reply_lines}
+
+lines_append : (before : ℕ) (rs ss : List Reply) → reply_lines before (rs ++ ss) ≡ reply_lines before rs ++ reply_lines (before + length rs) ss
+lines_append before [] ss = let e : before + 0 ≡ before = omega arith in ap (λ n. reply_lines n ss) (sym e)
+lines_append before (r ∷ rs) ss =
+    let e : before + 1 + length rs ≡ before + length (r ∷ rs) = omega arith in
+    ap (λ text. reply_line (before + 1) r ++ text) (lines_append (before + 1) rs ss ∙ ap (λ n. reply_lines (before + 1) rs ++ reply_lines n ss) e)
+    ∙ sym (append_assoc (reply_line (before + 1) r) (reply_lines (before + 1) rs) (reply_lines (before + length (r ∷ rs)) ss))
+
+-- a reply more, behind the first k
+pub lines_more : (rs : List Reply) (k : ℕ) (d : Reply) → k < length rs
+    → reply_lines 0 (take k rs) ++ reply_line (k + 1) (get_or rs k d) ≡ reply_lines 0 (take (k + 1) rs)
+lines_more rs k d l =
+    let e : 0 + length (take k rs) ≡ k = omega (arith, length-take-le k rs (omega arith)) in
+    sym (
+    ap (reply_lines 0) (take_more rs k d l)
+    ∙ lines_append 0 (take k rs) (get_or rs k d ∷ [])
+    ∙ ap (λ n. reply_lines 0 (take k rs) ++ reply_lines n (get_or rs k d ∷ [])) e
+    ∙ ap (λ text. reply_lines 0 (take k rs) ++ text) (append-nil (reply_line (k + 1) (get_or rs k d)))
+    )

@@ -1,0 +1,33 @@
+-- What a program prints of a dossier, and what it read.
+use Rattle.std.specs.Prelude.{◌≡◌, ℕ, ◌+◌, List, [], ◌∷◌, ◌++◌, length, take, Option, IfSome, codes}
+use Rattle.std.specs.Fmt.{decimal}
+use Rattle.claims.specs.declared.Status.TheVariants.{Open, Empty, Inhabited}
+use Rattle.claims.specs.Claiming.{filed, tallied}
+use Rattle.docket.specs.declared.Docket.{Docket}
+use Rattle.intake.specs.declared.Reply.{Reply}
+use Rattle.intake.specs.Printing.{reply_text}
+
+-- a line for a reply, with the index of its record
+abbrev pub reply_line : ℕ → Reply → List ℕ
+reply_line index r = decimal index ++ (codes " " ++ (reply_text r ++ codes "\n"))
+
+-- a line for each reply, where `before` records stand before them; indexes count from 1
+abbrev pub reply_lines : ℕ → List Reply → List ℕ
+reply_lines before [] = []
+reply_lines before (r ∷ rs) = reply_line (before + 1) r ++ reply_lines (before + 1) rs
+
+-- the last line: how many claims are open, empty and inhabited
+abbrev pub last_line : ℕ × ℕ × ℕ → List ℕ
+last_line t = codes "end " ++ (decimal t.0 ++ (codes " " ++ (decimal t.1 ++ (codes " " ++ (decimal t.2 ++ codes "\n")))))
+
+-- the whole of it
+abbrev pub report_text : List Reply → ℕ × ℕ × ℕ → List ℕ
+report_text rs tally = reply_lines 0 rs ++ last_line tally
+
+-- the open, the empty and the inhabited claims of a docket
+abbrev pub tally_of : Docket → ℕ × ℕ × ℕ
+tally_of d = (tallied Open (filed d.claims), tallied Empty (filed d.claims), tallied Inhabited (filed d.claims))
+
+-- the first n bytes of the buffer are the first of the input, as many as the buffer holds or the input has
+abbrev pub HasFirst : Option (List ℕ) → List ℕ → ℕ → Type 0
+HasFirst input buffer n = IfSome input (λ xs. take n buffer ≡ take (length buffer) xs)

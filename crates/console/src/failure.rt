@@ -1,0 +1,36 @@
+ghost use Rattle.std.specs.Prelude.{◌≡◌};
+ghost use Rattle.console.specs.declared.failure.Failure.TheVariants.{Io};
+
+use std::error::Error;
+use std::{fmt, io};
+
+/// Why a dossier was not answered.
+#[derive(Debug, Drop)]
+pub enum Failure {
+    // no docket can have room for so many concepts or lines
+    Capacities,
+    // there are fewer places for replies than records
+    Replies,
+    // the input was not read, or the output not written
+    Io(io::Error),
+}
+
+impl fmt::Display for Failure {
+    fn fmt<W: fmt::Write>(&self, f: &mut fmt::Formatter<W>) -> fmt::Result {
+        match self {
+            Failure::Capacities => write!(f, "no docket of these capacities"),
+            Failure::Replies => write!(f, "more records than replies"),
+            Failure::Io(error) => write!(f, "{error}"),
+        }
+    }
+}
+
+impl Error for Failure {}
+
+impl From<io::Error> for Failure {
+    ghost from_gives = { λ error failure. failure ≡ Io error };
+
+    fn from(error: io::Error) -> Failure {
+        Failure::Io(error)
+    }
+}
