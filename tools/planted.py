@@ -23,6 +23,7 @@ METHODS = [('is_some', 'is_none'), ('is_none', 'is_some'), ('min', 'max'), ('max
 FIELDS = [('p', 'q'), ('q', 's'), ('s', 'p'), ('m', 'n'), ('n', 'm'), ('left', 'right'), ('right', 'left'), ('from', 'to'), ('to', 'from'),
           ('size', 'point'), ('point', 'size'), ('marks', 'edges'), ('edges', 'marks'), ('element', 'name'), ('first', 'second'),
           ('second', 'first'), ('concepts', 'lines'), ('rule', 'index')]
+INTEGERS = ('u8', 'u16', 'u32', 'u64', 'usize')
 CASES = {'Refusal': ['Phase', 'Range(0)', 'Absent(0)', 'Full(256)', 'Order(0)', 'Unpaired'], 'Status': ['Open', 'Empty', 'Inhabited'],
          'Phase': ['Open', 'Sealed'], 'Subject': ['RoleAxiom', 'Concept', 'Pair', 'Axiom', 'Seal', 'Line', 'Claim', 'Closing'],
          'Kind': ['Inclusion', 'Transitivity', 'Concept', 'Pair', 'Axiom', 'Seal', 'Line', 'Claim', 'CloseEmpty', 'CloseInhabited'],
@@ -77,8 +78,8 @@ PLAIN = set()
 
 
 class Function:
-    def __init__(self, path, name, start, end, params):
-        self.path, self.name, self.start, self.end, self.params = path, name, start, end, params
+    def __init__(self, path, name, start, end, params, gives):
+        self.path, self.name, self.start, self.end, self.params, self.gives = path, name, start, end, params, gives
         self.bugs = []
 
     def simple(self):
@@ -120,7 +121,8 @@ def functions(path, crate, code):
             i += 1
         owner = [o for a, b, o in owners if a < m.start() < b]
         params = re.findall(r'(\w+)\s*:\s*([^,)]+)', code[m.end():start])
-        yield Function(path, '::'.join([prefix] + owner + [m.group(1)]), start + 1, i, params)
+        gives = re.search(r'->\s*(.*)', code[m.end():start], re.S)
+        yield Function(path, '::'.join([prefix] + owner + [m.group(1)]), start + 1, i, params, gives.group(1).split('where')[0].strip() if gives else '')
 
 
 def bugs(code, text, f):
@@ -172,6 +174,31 @@ def bugs(code, text, f):
                 yield a + m.start(), a + m.end(), enum + '::' + case
     for m in re.finditer(r'\bSome\(([^()]|\([^()]*\))*\)(?! *(=>|=))', body):
         yield a + m.start(), a + m.end(), 'None'
+    # the values of two arms of a match change places
+    arms = list(re.finditer(r'(?m)^([ \t]*)[^\n=]*=> ([^\n{},]+),\n', body))
+    for x, y in zip(arms, arms[1:]):
+        if x.end() == y.start() and x.group(1) == y.group(1) and x.group(2) != y.group(2):
+            yield a + x.start(2), a + y.end(2), text[a + y.start(2):a + y.end(2)] + text[a + x.end(2):a + y.start(2)] + text[a + x.start(2):a + x.end(2)]
+    # what the function gives is turned round, or lost
+    depth, tail = 0, 0
+    for i, c in enumerate(body):
+        depth += {'{': 1, '(': 1, '[': 1, '}': -1, ')': -1, ']': -1}.get(c, 0)
+        if depth == 0 and (c == ';' or (c == '}' and body[i + 1:].strip() and not re.match(r'\s*(\.|\?|else|[,;)])', body[i + 1:]))):
+            tail = i + 1
+    last = text[a + tail:a + len(body)].strip()
+    if last and not last.startswith('//'):
+        s, e = a + tail + body[tail:].index(body[tail:].strip()[0]), a + len(body.rstrip())
+        if f.gives == 'bool':
+            yield s, e, '!(' + text[s:e] + ')'
+        elif f.gives.startswith('Option<'):
+            yield s, e, 'None'
+        elif f.gives in INTEGERS:
+            yield s, e, '(' + text[s:e] + ') ^ 1'
+    # a number that is given is another
+    for one, its in f.params:
+        if its.strip() in INTEGERS:
+            for m in re.finditer(r'(?<![\w.])%s\b(?!\s*[:(])' % one, body):
+                yield a + m.start(), a + m.end(), '(%s ^ 1)' % one
     # one parameter for another of its type
     for one, its in f.params:
         for other, type_ in f.params:

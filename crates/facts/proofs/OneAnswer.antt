@@ -1,11 +1,10 @@
 -- A call has one answer.
-use Rattle.std.proofs.Common.{◌≡◌, ℕ, ◌<◌, leb, List, length, Some, None, Ok, Err, Option, Result, sym, ap, ◌∙◌, inl, inr, arith}
+use Rattle.std.proofs.Common.{◌≡◌, ℕ, leb, List, length, Some, None, Ok, Err, Option, Result, sym, ap, ◌∙◌, inl, inr, arith}
 use Rattle.refusals.specs.declared.Refusal.{Refusal}
 use Rattle.refusals.proofs.Clearing.{clear, when_none}
 use Rattle.std.proofs.lemmas.Bool.{leb-false}
 use Rattle.vocabulary.specs.Roles.{role_axioms}
 use Rattle.vocabulary.specs.Vocabularies.{concepts, axioms}
-use Rattle.vocabulary.specs.Keeping.{Kept}
 use Rattle.models.specs.declared.Model.{Model}
 use Rattle.models.specs.Judging.{LabelStands}
 use Rattle.claims.specs.Claiming.{filed, claim_at}
@@ -14,7 +13,7 @@ use Rattle.docket.specs.Dockets.{count, lines}
 use Rattle.docket.specs.Calls.{Call, inclusion, transitivity, concept, pair, general, seal, line, claim, close_empty, close_inhabited, all_rows, refusal, JudgedFor, Refuses, Acts}
 use Rattle.docket.specs.Runs.{Reached}
 use Rattle.docket.proofs.Reaching.{reached_kept}
-use Rattle.facts.specs.Answers.{AsksTheSame, the_same, the_same_model, CallsHaveOneAnswer}
+use Rattle.facts.specs.Answers.{the_same, the_same_model, CallsHaveOneAnswer}
 use Rattle.facts.proofs.Claims.{claim_labels_stand}
 use Rattle.facts.proofs.OneJudgement.{outcome, one_outcome}
 

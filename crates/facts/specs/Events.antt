@@ -2,7 +2,7 @@
 use Rattle.std.specs.Prelude.{◌≡◌, ℕ, ◌⊎◌, List, [], ◌∷◌, Ok, Err, Result}
 use Rattle.refusals.specs.declared.Refusal.{Refusal}
 use Rattle.docket.specs.declared.Docket.{Docket}
-use Rattle.docket.specs.Calls.{Call, inclusion, transitivity, concept, pair, general, seal, line, claim, close_empty, close_inhabited, Acts}
+use Rattle.docket.specs.Calls.{Call, pair, seal, close_empty, close_inhabited, Acts}
 
 -- a call and its answer: a number, or a refusal
 pub record Event : Type 0 where
@@ -27,16 +27,11 @@ pub data Interleaved : List Event → List Event → List Event → Type 0 where
 
 -- calls that file nothing
 abbrev pub FilesNothing : Call → Type 0
-FilesNothing (inclusion r s) = ⊥
-FilesNothing (transitivity r) = ⊥
-FilesNothing (concept t a b) = ⊥
 FilesNothing (pair a b) = Unit {0}
-FilesNothing (general c) = ⊥
 FilesNothing seal = Unit {0}
-FilesNothing (line k f) = ⊥
-FilesNothing (claim ms) = ⊥
 FilesNothing (close_empty c n) = Unit {0}
 FilesNothing (close_inhabited c m old new) = Unit {0}
+FilesNothing call = ⊥
 
 abbrev pub IsRefusal : Result ℕ Refusal → Type 0
 IsRefusal (Ok i) = ⊥
