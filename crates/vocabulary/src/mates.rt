@@ -14,7 +14,9 @@ impl Mates {
     pub fn new() -> Mates
         ensures { result.of ≡ replicate 1024 None }
     {
-        Mates { of: [None; MOST_CONCEPTS] }
+        Mates {
+            of: [None; MOST_CONCEPTS],
+        }
     }
 
     /// The mate of a concept, if it has one.
