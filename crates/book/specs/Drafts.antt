@@ -41,7 +41,7 @@ unfit k v ls f x = first (
     cond (nat_lt 0 (k.cites f.rule)) (least_outside (label_of ls f.m) (conclusion k v f x 0)) None
     ∷ cond (nat_lt 1 (k.cites f.rule)) (least_outside (label_of ls f.n) (conclusion k v f x 1)) None ∷ [])
 
--- Filing a draft checks four groups of rows, one behind the other: numbers in range, entries that stand, room and order, and
+-- Filing a draft checks four groups of rows, one after another: numbers in range, entries that stand, room and order, and
 -- the licence.
 
 -- the rule is in the bank, and what it doesn't use is 0

@@ -25,9 +25,6 @@ pub struct Draft<'m> {
     pub members: &'m [u8],
 }
 
-// The functions of this file take bank, vocabulary, lines and draft apart: where a premise was to stand for three of them,
-// the proof of `first_unfit` did not close.
-
 // The rule number and the cited lines that it doesn't use.
 fn check_range<B: Bank>(bank: &B, f: &Draft) -> Result<(), Refusal>
     ensures { Passed (range_rows (B.Bank.calculus bank.now) f.now) result }

@@ -1,7 +1,7 @@
-ghost use Rattle.std.specs.Prelude.{◌+◌, [], ◌∷◌, nat_le};
+ghost use Rattle.std.specs.Prelude.{◌+◌, [], ◌∷◌};
 ghost use Rattle.file_bytes.specs.Bytes.{numbers};
 ghost use Rattle.labels.specs.Labels.{absent_at, falling_at};
-ghost use Rattle.refusals.specs.Checks.{when, with, Passed};
+ghost use Rattle.refusals.specs.Checks.{with, Passed};
 ghost use Rattle.refusals.specs.declared.Refusal.TheVariants.{Absent, Order};
 ghost use Rattle.book.specs.Drafts.{principal_rows};
 

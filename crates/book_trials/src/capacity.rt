@@ -31,7 +31,7 @@ static BEFORE: [Step; 9] = [
     Record(&[7, 1, 0, 0, 0, 0, 0, 1, 0, 3], Err((4, 8))),
 ];
 
-// What is seen behind that, where line 0 stands: labels that don't rise, a step that doesn't apply, and one without licence.
+// What is seen after that, where line 0 stands: labels that don't rise, a step that doesn't apply, and one without licence.
 static BEHIND: [Step; 4] = [
     Record(&[7, 1, 0, 0, 0, 0, 0, 1, 0], Err((6, 7))),
     Record(&[7, 1, 0, 0, 0, 0, 0, 0, 0], Err((6, 7))),
@@ -47,7 +47,7 @@ fn file(alloc: Global, docket: &mut Docket, from: u16, to: u16) -> Result<(), Fa
     Ok(())
 }
 
-// One line more, and what would be refused for other reasons behind that, where no line is free.
+// One line more, and what would be refused for other reasons after that, where no line is free.
 fn is_full(alloc: Global, docket: &mut Docket, capacity: u16) -> Result<(), Fail> {
     let full = Err((5, capacity as usize));
     play(alloc, docket, &[Record(&BOTTOM, full)])?;
@@ -59,7 +59,7 @@ fn is_full(alloc: Global, docket: &mut Docket, capacity: u16) -> Result<(), Fail
     Ok(())
 }
 
-// The last line stands, and none behind it.
+// The last line stands, and none after it.
 fn last_stands(alloc: Global, docket: &mut Docket, capacity: u16) -> Result<(), Fail> {
     play(
         alloc,

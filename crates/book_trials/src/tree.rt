@@ -67,7 +67,7 @@ static VOCABULARY: [Step; 44] = [
 // A node of a closed tree: its rule with p, q and s; its children, by their places in the table; and its label.
 type Node = ([u16; 4], &'static [usize], &'static [u16]);
 
-// A closed tree for the label {27}, with each of the ten rules: a node, and behind it what hangs from it.
+// A closed tree for the label {27}, with each of the ten rules: a node, and after it what hangs from it.
 static TREE: [Node; 46] = [
     ([4, 27, 0, 0], &[1, 21], &[27]),
     ([4, 25, 0, 0], &[2, 16], &[25, 27]),
@@ -168,7 +168,7 @@ fn file_node(
     play(alloc, docket, &[Record(record.as_slice(), Ok(number))])
 }
 
-// Files the nodes in this order. Behind the one that is filed as number n comes step n of `between`, if there is one.
+// Files the nodes in this order. After the one that is filed as number n comes step n of `between`, if there is one.
 fn file_tree(
     alloc: Global,
     docket: &mut Docket,

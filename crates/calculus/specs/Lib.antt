@@ -1,4 +1,4 @@
-pub mod Cases
+pub mod Inhabiting
 pub mod Premises
 pub mod Schemas
 pub mod Calculi

@@ -5,7 +5,7 @@ use Rattle.logic.specs.Interpretations.{Interpretation}
 use Rattle.vocabulary.specs.declared.Vocabulary.{Vocabulary}
 use Rattle.vocabulary.specs.Keeping.{Kept}
 use Rattle.calculus.specs.declared.rule.Principals.{Principals}
-use Rattle.calculus.specs.Cases.{MeetsAxioms, Inhabits}
+use Rattle.calculus.specs.Inhabiting.{MeetsAxioms, Inhabits}
 
 -- A rule's number, how many lines it cites, when a step applies to the label in a row, and which concepts are in conclusion i.
 pub record Schema : Type 0 where

@@ -1,5 +1,4 @@
-ghost use Rattle.std.specs.Prelude.{◌≡◌, ℕ, ◌&&◌};
-ghost use Rattle.labels.specs.Least.{least};
+ghost use Rattle.std.specs.Prelude.{◌≡◌};
 ghost use Rattle.labels.specs.Labels.{Row};
 ghost use Rattle.calculus.specs.Calculi.{Calculus, LawfulCalculus, alone, beside};
 ghost use Rattle.calculus.specs.Banks.{alone_lawful, beside_lawful};

@@ -77,6 +77,7 @@ pub trait Rule {
 
     ghost has_count: { (r : Self) → (schema r).cites ≡ CITED_LINES };
 
-    // if an element has all of the label, and the step applies, some element has all of one of the conclusions
+    // at most two lines, concepts below 1,024 alone, and the soundness law: if a finite interpretation that meets the axioms has an
+    // element in all of the label, and the step applies, it has one in all of some conclusion
     ghost lawful: { (r : Self) → Lawful (schema r) };
 }

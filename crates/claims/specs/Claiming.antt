@@ -26,9 +26,9 @@ Settled x y k s true = (k < length (filed x)) × (filed y ≡ slice_set (filed x
 Settled x y k s false = (length (filed x) ≤ k) × (y ≡ x)
 
 -- whether a claim is neither empty nor inhabited yet
-abbrev pub is_unsettled : Status → Bool
-is_unsettled Open = true
-is_unsettled status = false
+abbrev pub is_open : Status → Bool
+is_open Open = true
+is_open status = false
 
 -- whether two statuses are the same
 abbrev pub same_status : Status → Status → Bool

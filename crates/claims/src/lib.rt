@@ -3,7 +3,7 @@
 ghost use Rattle.std.specs.Prelude.{◌≡◌, ◌<◌, ◌≤◌, [], length, MatchOption, nat_le};
 ghost use Rattle.std.specs.Option.{is_some};
 ghost use Rattle.claims.specs.declared.Status.TheVariants.{Open, Empty, Inhabited};
-ghost use Rattle.claims.specs.Claiming.{filed, claim_at, is_unsettled, tallied, ClaimFiled, Settled};
+ghost use Rattle.claims.specs.Claiming.{filed, claim_at, is_open, tallied, ClaimFiled, Settled};
 
 use register::bounded::Bounded;
 
@@ -14,7 +14,7 @@ pub const MOST_CLAIMS: usize = 256;
 #[derive(Clone, Copy, Debug, PartialEq, Eq)]
 pub enum Status {
     Open,
-    // no interpretation that meets the axioms has an element in all of its label
+    // no finite interpretation that meets the axioms has an element in all of its label
     Empty,
     // some finite interpretation that meets the axioms has one
     Inhabited,
@@ -30,7 +30,7 @@ pub struct Claim {
 impl Claim {
     /// Whether it is neither empty nor inhabited yet.
     pub fn is_open(&self) -> bool
-        ensures { result ≡ is_unsettled self.now.status }
+        ensures { result ≡ is_open self.now.status }
     {
         self.status == Status::Open
     }

@@ -35,7 +35,7 @@ pub fn start(table: &mut [u64], roles: usize)
     ensures { Exact table.new roles [] }
 {
     let width = row_words(roles);
-    // by place: of the words behind an adapter of `iter_mut` nothing is known when the loop ends
+    // by index: of words written through an adapter of `iter_mut` nothing is known when the loop ends
     for at in 0..table.len() {
         table[at] = own_word(at / width, at % width);
     }
@@ -62,7 +62,7 @@ fn join_row(table: &mut [u64], roles: usize, i: usize, s: usize)
     ensures { RowJoined table.old table.new roles i s }
 {
     let width = row_words(roles);
-    // by place: both rows lie in one slice, and may be the same
+    // by index: both rows lie in one slice, and may be the same
     for k in 0..width {
         table[i * width + k] |= table[s * width + k];
     }

@@ -30,7 +30,7 @@ pub type Step = (u16, [u16; 3], &'static [u16]);
 // The concepts of each of its conclusions, in their order.
 pub type Conclusions = &'static [&'static [u16]];
 
-// Memory for a row and two words behind it, and what they hold before.
+// Memory for a row and two words after it, and what they hold before.
 pub const WORDS: usize = 18;
 
 pub const BEFORE: [u64; WORDS] = [0x5aa5_0ff0_3cc3_6996; WORDS];
@@ -167,7 +167,7 @@ fn says_by_number(rt: &impl Abort, rule: u16, at: &Premise, said: Option<Conclus
 // How many conclusions each rule has, from rule 1 on.
 pub const CONCLUSIONS: [u16; 10] = [0, 0, 1, 2, 1, 1, 2, 2, 2, 1];
 
-// The docket writes exactly these rows, and the words behind them are as they were. A step that has none closes a line.
+// The docket writes exactly these rows, and the words after them are as they were. A step that has none closes a line.
 fn writes(
     rt: &impl Abort,
     heap: Global,

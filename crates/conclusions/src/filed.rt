@@ -81,7 +81,7 @@ const ROLE_AXIOMS: [RoleAxiom; 4] = [
     RoleAxiom::Inclusion(3, 126),
 ];
 
-// Mates; those that have parts come behind the mates that these are.
+// Mates; those that have parts come after the mates that these are.
 const MATES: [(u16, u16); 6] = [(0, 1), (2, 3), (1020, 64), (1023, 12), (10, 968), (76, 13)];
 
 // In words 0, 1 and 15 of a row, one of them twice.

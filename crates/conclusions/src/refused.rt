@@ -26,7 +26,7 @@ const QUESTIONS: [Question; 36] = [
     (4, [5, 0, 0], 2, &[5], 18, Err((3, 4))),
     (4, [5, 0, 0], 256, &[5], 18, Err((3, 4))),
     (3, [1024, 0, 0], 1, &[1024, 1], 0, Err((3, 4))),
-    // memory that is too short, behind so many members
+    // memory that is too short, after so many members
     (3, [4, 0, 0], 0, &[4], 15, Err((3, 6))),
     (3, [4, 0, 0], 0, &[4], 0, Err((3, 6))),
     (6, [63, 0, 0], 0, &[], 15, Err((3, 5))),
@@ -61,7 +61,7 @@ const QUESTIONS: [Question; 36] = [
     (9, [1023, 12, 967], 1, &[12], 18, Ok(())),
 ];
 
-// Each question is answered as said; what is refused leaves all of the memory as it was, and what is answered all behind the row.
+// Each question is answered as said; what is refused leaves all of the memory as it was, and what is answered all after the row.
 fn answered(
     rt: &impl Abort,
     heap: Global,

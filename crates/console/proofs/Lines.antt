@@ -11,7 +11,7 @@ lines_append before (r ∷ rs) ss =
     ap (λ text. reply_line (before + 1) r ++ text) (lines_append (before + 1) rs ss ∙ ap (λ n. reply_lines (before + 1) rs ++ reply_lines n ss) e)
     ∙ sym (append_assoc (reply_line (before + 1) r) (reply_lines (before + 1) rs) (reply_lines (before + length (r ∷ rs)) ss))
 
--- a reply more, behind the first k
+-- a reply more, after the first k
 pub lines_more : (rs : List Reply) (k : ℕ) (d : Reply) → k < length rs
     → reply_lines 0 (take k rs) ++ reply_line (k + 1) (get_or rs k d) ≡ reply_lines 0 (take (k + 1) rs)
 lines_more rs k d l =

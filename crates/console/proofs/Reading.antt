@@ -10,7 +10,7 @@ take_past (x ∷ p) q m =
     let e : length (x ∷ p) + m ≡ suc (length p + m) = omega arith in
     ap (λ n. take n (x ∷ (p ++ q))) e ∙ ap (λ l. x ∷ l) (take_past p q m)
 
--- a part is written behind the first a bytes of the buffer
+-- a part is written after the first a bytes of the buffer
 module _ (buffer part : List ℕ) (a k : ℕ) (inside : a ≤ length buffer) where
   front_grows : (m : ℕ) → m ≤ length part → take (a + m) (put_mid a k buffer part) ≡ take a buffer ++ take m part
   front_grows m l =

@@ -1,4 +1,4 @@
--- What is left of a file's answer, and of what was written, behind the steps that follow.
+-- What is left of a file's answer, and of what was written, after the steps that follow.
 use Rattle.std.proofs.Common.{◌≡◌, ℕ, List, Some, None, Ok, Err, Option, Result, sym, ap, ◌∙◌}
 use Rattle.std.specs.Result.{MatchResult}
 use Rattle.std.specs.Io.KnownBytes.{Appends, Keeps}

@@ -25,7 +25,7 @@ line_places m = length m.lines.now
 abbrev pub reply_places : Memory → ℕ
 reply_places m = length m.replies.now
 
--- A new docket with room for as many concepts and lines as the memory takes the file, record by record, with the ten rules; and
+-- A new docket with room for as many concepts and lines as the memory has places for takes the file, record by record, with the ten rules; and
 -- the report of its replies, and of its claims at the end, is what the output grew by.
 pub record Served (file : List ℕ) (m : Memory) (before after : Option (List ℕ)) : Type 0 where
   pub opened : Docket
@@ -38,7 +38,7 @@ pub record Served (file : List ℕ) (m : Memory) (before after : Option (List �
   pub taken : RecordsTaken house file 0 opened m.rows.now replies closed rows_after
   pub printed : Appends before after (report_text replies (tally_of closed))
 
--- it is served, or it is not, and then why; a system that fails to read or to write can do so at any time
+-- it is served, or it is not, and then why; where the system fails to read or to write, nothing is said
 abbrev pub Ended : List ℕ → Memory → Option (List ℕ) → Option (List ℕ) → Result (Unit {0}) Failure → Type 0
 Ended file m before after (Ok u) = Served file m before after
 Ended file m before after (Err Capacities) =

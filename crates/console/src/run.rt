@@ -12,7 +12,7 @@ use rules::table::house;
 use std::io::{Read, Write};
 
 /// The memory that a dossier is answered in. There can be as many concepts, lines and records as there are places for them; the rows
-/// need four words for each concept.
+/// need four words for each concept. What the memory holds at the end is of no use.
 #[derive(Drop)]
 pub struct Memory<'m> {
     pub concepts: &'m mut [Concept],

@@ -19,6 +19,7 @@ use step::Step;
 /// What a call said: a value, or a refusal by its number and its place.
 pub type Said<T> = Result<T, (u16, usize)>;
 
+/// What a call answered, its refusal as it is returned.
 pub fn told<T: Copy>(answer: Result<T, Refusal>) -> Said<T> {
     answer.map_err(|refusal| refusal.returned())
 }

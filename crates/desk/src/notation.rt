@@ -9,7 +9,7 @@ pub fn bytes_of(alloc: Global, numbers: &[u16]) -> Result<Vec<u8>, AllocError> {
     Ok(bytes)
 }
 
-/// Puts a record behind a file. It is written as on the pages, its kind first and then its fields; with no kind it is none.
+/// Puts a record after a file. It is written as on the pages, its kind first and then its fields; with no kind it is none.
 pub fn put_record(file: &mut Vec<u8>, record: &[u16]) -> Result<(), AllocError> {
     let [kind, fields @ ..] = record else {
         return Ok(());

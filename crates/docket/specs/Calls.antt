@@ -13,7 +13,7 @@ use Rattle.vocabulary.specs.Keeping.{Kept}
 use Rattle.models.specs.declared.Model.{Model}
 use Rattle.models.specs.Judging.{LabelStands, Judged}
 use Rattle.claims.specs.declared.Status.TheVariants.{Empty, Inhabited}
-use Rattle.claims.specs.Claiming.{filed, claim_at, is_unsettled, ClaimFiled, Settled}
+use Rattle.claims.specs.Claiming.{filed, claim_at, is_open, ClaimFiled, Settled}
 use Rattle.calculus.specs.Calculi.{Calculus}
 use Rattle.book.specs.declared.filing.Draft.{Draft}
 use Rattle.book.specs.Lines.{cited_lines, label_of}
@@ -35,7 +35,7 @@ pub data Call : Type 0 where
   concept : ℕ → ℕ → ℕ → Call
   -- two concepts
   pair : ℕ → ℕ → Call
-  -- a concept that holds of every element
+  -- an axiom: a concept that holds of every element
   general : ℕ → Call
   seal : Call
   -- a line by the rules of a bank
@@ -85,12 +85,12 @@ rows (claim ms) d =
 rows (close_empty c n) d =
     when (nat_le (length (filed d.claims)) c) (Absent 0)
     ∷ when (nat_le (length (lines d)) n) (Absent 1)
-    ∷ when (not (is_unsettled (claim_at d.claims c).status)) (Closed c)
+    ∷ when (not (is_open (claim_at d.claims c).status)) (Closed c)
     ∷ with Outside (outside (label_of (lines d) n) (claim_at d.claims c).label) ∷ []
 rows (close_inhabited c m old new) d =
     when (nat_lt (length old / 4) (count d)) (Range (4 + (length m.marks.now + length m.edges.now) / 2))
     ∷ when (nat_le (length (filed d.claims)) c) (Absent 0)
-    ∷ when (not (is_unsettled (claim_at d.claims c).status)) (Closed c) ∷ []
+    ∷ when (not (is_open (claim_at d.claims c).status)) (Closed c) ∷ []
 
 -- all that speaks against a call: the phase comes first
 abbrev pub all_rows : Call → Docket → List (Option Refusal)

@@ -9,7 +9,7 @@ use Rattle.calculus.specs.Calculi.{Calculus}
 use Rattle.book.specs.Drafts.{principal_rows}
 use Rattle.docket.specs.declared.Docket.{Docket}
 use Rattle.docket.specs.declared.conclusion.Inquiry.{Inquiry}
-use Rattle.docket.specs.Phases.{is_open}
+use Rattle.docket.specs.Phases.{is_unsealed}
 use Rattle.docket.specs.Dockets.{count}
 
 -- the members and the row of the label that is asked about
@@ -22,7 +22,7 @@ asked_label f = row (asked_members f)
 -- what is checked first, with memory of so many words
 abbrev pub early_rows : Calculus → Docket → Inquiry → ℕ → List (Option Refusal)
 early_rows k d f words =
-    when (is_open d.phase) Phase
+    when (is_unsealed d.phase) Phase
     ∷ when (not (k.has f.rule)) (Range 0)
     ∷ when (nat_le (k.cites f.rule) f.index) (Range 4)
     ∷ when (nat_lt words 16) (Range (5 + length f.members.now / 2))

@@ -45,7 +45,7 @@ Opened n m cs ls (Ok d) = (first (opening_rows n m (length cs.now) (length ls.no
     × (room d.vocabulary.concepts ≡ n) × (room d.book ≡ m) × (d.vocabulary.concepts.slots ≡ cs) × (d.book.slots ≡ ls)
 Opened n m cs ls (Err u) = (first (opening_rows n m (length cs.now) (length ls.now)) ≡ Some u.refusal) × (u.concepts ≡ cs) × (u.lines ≡ ls)
 
--- d behind a call that its phase admits
+-- d after a call that its phase admits
 abbrev pub entered : Docket → Subject → Docket
 entered d k = record { phase = after d.phase k; vocabulary = d.vocabulary; book = d.book; claims = d.claims }
 

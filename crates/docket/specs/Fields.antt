@@ -8,7 +8,7 @@ use Rattle.logic.specs.Concepts.{tag, first_number, second_number}
 use Rattle.docket.specs.declared.fields.Use.{Use}
 use Rattle.docket.specs.declared.fields.Use.TheVariants.{Unused, Name, Role, Concept as Part}
 
--- what the numbers behind a tag are: none; a name; two concepts; a role and a concept
+-- what the numbers after a tag are: none; a name; two concepts; a role and a concept
 abbrev pub use_of_first : ℕ → Use
 use_of_first t = cond (nat_lt t 2) Unused (cond (nat_lt t 4) Name (cond (nat_lt t 6) Part Role))
 

@@ -15,7 +15,7 @@ use Rattle.vocabulary.specs.Mates.{mate}
 use Rattle.vocabulary.specs.Vocabularies.{concepts}
 use Rattle.vocabulary.specs.Pairing.{Pairable}
 use Rattle.docket.specs.declared.Docket.{Docket}
-use Rattle.docket.specs.Phases.{is_open}
+use Rattle.docket.specs.Phases.{is_unsealed}
 use Rattle.docket.specs.Dockets.{count}
 
 -- the role axioms that stand
@@ -28,13 +28,13 @@ Answered rows R (Ok x) = (first rows ≡ None) × R x
 Answered rows R (Err f) = first rows ≡ Some f
 
 abbrev pub sealed_rows : Docket → List (Option Refusal)
-sealed_rows d = when (is_open d.phase) Phase ∷ []
+sealed_rows d = when (is_unsealed d.phase) Phase ∷ []
 
 abbrev pub below_rows : Docket → ℕ → ℕ → List (Option Refusal)
-below_rows d r s = when (is_open d.phase) Phase ∷ when (nat_le 128 r) (Range 0) ∷ when (nat_le 128 s) (Range 1) ∷ []
+below_rows d r s = when (is_unsealed d.phase) Phase ∷ when (nat_le 128 r) (Range 0) ∷ when (nat_le 128 s) (Range 1) ∷ []
 
 abbrev pub transitive_rows : Docket → ℕ → List (Option Refusal)
-transitive_rows d r = when (is_open d.phase) Phase ∷ when (nat_le 128 r) (Range 0) ∷ []
+transitive_rows d r = when (is_unsealed d.phase) Phase ∷ when (nat_le 128 r) (Range 0) ∷ []
 
 abbrev pub mate_rows : Docket → ℕ → List (Option Refusal)
 mate_rows d c = when (nat_le (count d) c) (Absent 0) ∷ []

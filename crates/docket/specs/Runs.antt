@@ -11,6 +11,7 @@ abbrev pub Lent : Call → Type 0
 Lent (line k f) = LawfulCalculus k
 Lent call = Unit {0}
 
+-- A DOCKET IS REACHED if it began new and only calls have acted on it since, in any order and number, refused ones among them
 pub data Reached : Docket → Type 0 where
   began : {d : Docket} → Fresh d → Reached d
   called : {d e : Docket} (c : Call) (a : Result ℕ Refusal) → Reached d → Lent c → Acts c d a e → Reached e

@@ -50,8 +50,7 @@ impl Docket<'_> {
     }
 
     /// Closes a claim as inhabited by a model that meets the axioms and whose point lies in all of its label. The rows are
-    /// working memory, four words for each standing concept. What it shares with `close_empty` lies around other checks, and
-    /// would be functions with halves of a contract.
+    /// working memory, four words for each standing concept.
     pub fn close_inhabited(&mut self, claim: u16, model: &Model, rows: &mut [u64]) -> Answer
         ensures { Acts (close_inhabited claim model.now rows.old rows.new) self.old result self.new }
     {

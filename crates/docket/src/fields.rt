@@ -9,7 +9,7 @@ use logic::role::ROLES;
 use refusals::Refusal;
 use refusals::checks::check_stands;
 
-// What one of the two numbers behind a tag is.
+// What one of the two numbers after a tag is.
 #[derive(Clone, Copy, Debug, PartialEq, Eq)]
 pub(crate) enum Use {
     Unused,

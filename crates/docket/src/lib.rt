@@ -8,7 +8,6 @@ pub mod phase;
 pub mod questions;
 mod tag;
 
-ghost use Rattle.std.specs.Prelude.{◌≡◌};
 ghost use Rattle.refusals.specs.Checks.{Passed};
 ghost use Rattle.docket.specs.Dockets.{opening_rows, Opened};
 

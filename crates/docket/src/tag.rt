@@ -42,7 +42,7 @@ impl TryFrom<u16> for Tag {
 }
 
 impl Tag {
-    // What the first number behind the tag is.
+    // What the first number after the tag is.
     pub(crate) fn first(self) -> Use
         ensures { result ≡ use_of_first (tag_number self) }
     {
@@ -54,7 +54,7 @@ impl Tag {
         }
     }
 
-    // What the second number behind the tag is.
+    // What the second number after the tag is.
     pub(crate) fn second(self) -> Use
         ensures { result ≡ use_of_second (tag_number self) }
     {

@@ -7,7 +7,7 @@ use logic::concept::Concept;
 use std::io;
 use std::io::BufWriter;
 
-// The most bytes that are read. What lies behind them is not looked at.
+// The most bytes that are read. What lies after them is not looked at.
 const LIMIT: usize = 16384;
 
 // The most records that so many bytes can hold: each has a head of four bytes.

@@ -30,7 +30,7 @@ use Rattle.book.specs.Lines.{label_of}
 use Rattle.docket.specs.declared.Docket.{Docket}
 use Rattle.docket.specs.declared.phase.Phase.{Phase}
 use Rattle.docket.specs.declared.phase.Phase.TheVariants.{Open, Sealed}
-use Rattle.docket.specs.Phases.{is_open, admits}
+use Rattle.docket.specs.Phases.{is_unsealed, admits}
 use Rattle.docket.specs.Dockets.{count, lines}
 use Rattle.docket.specs.Calls.{Call, inclusion, transitivity, concept, pair, general, seal, line, claim, close_empty, close_inhabited, subject_of, all_rows, refusal, Acts}
 use Rattle.docket.specs.Runs.{Reached, began, called}
@@ -121,12 +121,12 @@ sealed_claims d e sealed phase words xs is all = record {
 }
 
 -- phases
-opened : (p : Phase) → is_open p ≡ true → p ≡ Open
+opened : (p : Phase) → is_unsealed p ≡ true → p ≡ Open
 opened Open h = refl
 opened Sealed h = let z : ◌≡◌ {A = ℕ} 0 1 = cc in absurd (omega arith)
 
-unopened : (p : Phase) → not (is_open p) ≡ true → p ≡ Open → ⊥
-unopened p h e = let k = ap (λ q. not (is_open q)) e in let z : ◌≡◌ {A = ℕ} 0 1 = cc in omega arith
+unopened : (p : Phase) → not (is_unsealed p) ≡ true → p ≡ Open → ⊥
+unopened p h e = let k = ap (λ q. not (is_unsealed q)) e in let z : ◌≡◌ {A = ℕ} 0 1 = cc in omega arith
 
 admitted : (c : Call) (d : Docket) → refusal c d ≡ None → admits d.phase (subject_of c) ≡ true
 admitted c d h = not-false (admits d.phase (subject_of c)) (when_none (not (admits d.phase (subject_of c))) WrongPhase (clear (all_rows c d) h).0)

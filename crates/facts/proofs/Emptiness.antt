@@ -10,7 +10,7 @@ use Rattle.logic.specs.Interpretations.{Interpretation}
 use Rattle.vocabulary.specs.declared.Vocabulary.{Vocabulary}
 use Rattle.vocabulary.specs.Vocabularies.{concepts}
 use Rattle.vocabulary.specs.Keeping.{Kept}
-use Rattle.calculus.specs.Cases.{Inhabits}
+use Rattle.calculus.specs.Inhabiting.{Inhabits}
 use Rattle.calculus.specs.Calculi.{Calculus, LawfulCalculus}
 use Rattle.book.specs.declared.filing.Draft.{Draft}
 use Rattle.book.specs.declared.line.Line.{Line}

@@ -12,7 +12,7 @@ use Rattle.vocabulary.specs.declared.Vocabulary.{Vocabulary}
 use Rattle.vocabulary.specs.Roles.{role_axioms}
 use Rattle.vocabulary.specs.Vocabularies.{concepts, axioms, ConceptFiled, RolesFiled, AxiomFiled, Paired}
 use Rattle.vocabulary.specs.Keeping.{Kept}
-use Rattle.calculus.specs.Cases.{MeetsAxioms, Inhabits}
+use Rattle.calculus.specs.Inhabiting.{MeetsAxioms, Inhabits}
 use Rattle.facts.specs.Lines.{Empty}
 
 -- all that stood in v stands in w

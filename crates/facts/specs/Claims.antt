@@ -7,7 +7,7 @@ use Rattle.vocabulary.specs.declared.Vocabulary.{Vocabulary}
 use Rattle.vocabulary.specs.Vocabularies.{concepts}
 use Rattle.models.specs.declared.Model.{Model}
 use Rattle.models.specs.Judging.{LabelStands, Judged}
-use Rattle.calculus.specs.Cases.{MeetsAxioms, Inhabits}
+use Rattle.calculus.specs.Inhabiting.{MeetsAxioms, Inhabits}
 use Rattle.claims.specs.declared.Status.TheVariants.{Empty as IsEmpty, Inhabited}
 use Rattle.claims.specs.Claiming.{filed, claim_at}
 use Rattle.book.specs.Lines.{label_of}
@@ -54,6 +54,7 @@ ModelsAreJudged = (d : Docket) → Reached d → (c : ℕ) (m : Model) (old new 
     → refusal (close_inhabited c m old new) d ≡ None → Acts (close_inhabited c m old new) d a e
     → Judged d.vocabulary (claim_at d.claims c).label m old (verdict a) new
 
+-- what holds of the claims of every docket that is reached
 pub record ClaimsAreRight : Type 0 where
   -- the label of a claim is of standing concepts
   pub claim_labels_stand : ClaimLabelsStand

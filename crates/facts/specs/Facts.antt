@@ -3,6 +3,7 @@ use Rattle.facts.specs.Lines.{LinesAreEmpty}
 use Rattle.facts.specs.Claims.{InhabitedClaimsHaveNoLine}
 use Rattle.facts.specs.TableTrees.{HouseTreesAreTaken}
 
+-- what holds of every docket that is reached: of its lines, of its inhabited claims, and of closed trees
 pub record ThreeFacts : Type 0 where
   -- no standing line's label is inhabited
   pub lines_are_empty : LinesAreEmpty

@@ -3,7 +3,7 @@ use Rattle.std.specs.Prelude.{ℕ, ◌<◌, Bool, length}
 use Rattle.bits.specs.Bits.{has}
 use Rattle.logic.specs.Interpretations.{Interpretation}
 use Rattle.vocabulary.specs.declared.Vocabulary.{Vocabulary}
-use Rattle.calculus.specs.Cases.{MeetsAxioms, Inhabits}
+use Rattle.calculus.specs.Inhabiting.{MeetsAxioms, Inhabits}
 use Rattle.book.specs.Lines.{label_of}
 use Rattle.docket.specs.declared.Docket.{Docket}
 use Rattle.docket.specs.Dockets.{lines}

@@ -4,6 +4,7 @@ ghost use Rattle.facts.specs.Answers.{CallsHaveOneAnswer};
 ghost use Rattle.facts.specs.Claims.{ClaimsAreRight};
 ghost use Rattle.facts.specs.Facts.{ThreeFacts};
 ghost use Rattle.facts.specs.Filing.{ClosedTreesAreTaken};
+ghost use Rattle.facts.specs.Keeping.{VocabulariesAreKept};
 
 /// THE THREE FACTS of every docket that is reached: no standing line's label is inhabited; where a claim is inhabited, no
 /// standing line's label lies within its label; and once it is sealed, every tree that is closed by the table of rules, and for
@@ -27,4 +28,10 @@ pub fn claims_are_right()
 /// A call does nothing; that it is proved says that it holds.
 pub fn calls_have_one_answer()
     ensures { CallsHaveOneAnswer }
+{}
+
+/// THE VOCABULARY IS KEPT in every docket that is reached, as the table of the rules and their soundness law ask.
+/// A call does nothing; that it is proved says that it holds.
+pub fn vocabularies_are_kept()
+    ensures { VocabulariesAreKept }
 {}

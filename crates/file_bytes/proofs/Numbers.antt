@@ -1,4 +1,4 @@
--- The two-byte numbers of a part, one behind the other.
+-- The two-byte numbers of a part, one after another.
 use Rattle.std.proofs.Common.{◌≡◌, ℕ, ◌/◌, List, [], ◌∷◌, length, refl, arith}
 use Rattle.file_bytes.specs.Bytes.{numbers}
 

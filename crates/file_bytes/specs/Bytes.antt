@@ -1,7 +1,7 @@
 -- Numbers and parts in a string of bytes.
 use Rattle.std.specs.Prelude.{ℕ, ◌+◌, ◌*◌, List, [], ◌∷◌, take, drop, slice_index}
 
--- the number in the two bytes from i on, the low byte first; bytes behind the end count as 0
+-- the number in the two bytes from i on, the low byte first; bytes after the end count as 0
 abbrev pub word : List ℕ → ℕ → ℕ
 word f i = slice_index f i + 256 * slice_index f (i + 1)
 
@@ -13,7 +13,7 @@ part f i n = take n (drop i f)
 abbrev pub field : List ℕ → ℕ → ℕ
 field f i = word f (2 * i)
 
--- the fields of a part, one behind the other; a lone last byte is no field
+-- the fields of a part, one after another; a lone last byte is no field
 abbrev pub numbers : List ℕ → List ℕ
 numbers [] = []
 numbers (a ∷ []) = []

@@ -2,7 +2,7 @@ ghost use Rattle.std.specs.Prelude.{◌≡◌};
 ghost use Rattle.std.specs.Iterator.{YieldsFirst, item_count};
 ghost use Rattle.file_bytes.specs.Bytes.{numbers};
 
-/// The two-byte numbers of a part, one behind the other; a lone last byte is none.
+/// The two-byte numbers of a part, one after another; a lone last byte is none.
 #[derive(Drop)]
 pub struct Numbers<'b> {
     rest: &'b [u8],

@@ -5,7 +5,7 @@ pub mod iter;
 ghost use Rattle.std.specs.Prelude.{◌≡◌, slice_index};
 ghost use Rattle.file_bytes.specs.Bytes.{word, field};
 
-// The byte at this place; 0 behind the end.
+// The byte at this place; 0 after the end.
 fn byte(bytes: &[u8], at: usize) -> u8
     ensures { result ≡ slice_index bytes.now at }
 {

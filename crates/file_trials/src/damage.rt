@@ -28,7 +28,7 @@ fn with_record(
     Ok(longer)
 }
 
-// A record before or behind the one that is damaged is answered as ever.
+// A record before or after the one that is damaged is answered as ever.
 fn as_ever(record: &Row, reply: &Reply, (size, wrong): Damage) -> Result<(), Fail> {
     let (from, _, kind, said) = *record;
     expect(

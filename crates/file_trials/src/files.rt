@@ -59,7 +59,7 @@ pub static RECORDS: [Row; 13] = [
     (68, 74, 8, Ok(0)),
     (74, 82, 9, Err((4, 1))),
     (82, 94, 10, Err((14, 0))),
-    // behind the seal, Top, which is taken, and an axiom, which isn't
+    // after the seal, Top, which is taken, and an axiom, which isn't
     (94, 104, 3, Ok(2)),
     (104, 110, 5, Err((2, 0))),
 ];

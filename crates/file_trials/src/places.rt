@@ -30,7 +30,7 @@ static AS_FILED: [Step; 6] = [
     Mate(3, Err((4, 0))),
 ];
 
-// A file of so many records, where there are `n` places for replies: what lies behind them is not written to.
+// A file of so many records, where there are `n` places for replies: what lies after them is not written to.
 fn with_places(
     alloc: Global,
     docket: &mut Docket,

@@ -17,7 +17,7 @@ static EXAMPLE: [&[u16]; 6] = [
     &[5, 0],
 ];
 
-// What is printed for each of its records, behind the index.
+// What is printed for each of its records, after the index.
 static PRINTED: [&str; 6] = [
     "3 ok 0",
     "3 ok 1",

@@ -105,7 +105,7 @@ static CHANGED: [&[Said<usize>]; 20] = [
 // A place and a field, and what is answered otherwise.
 type Taken = (usize, usize, &'static [Change]);
 
-// Where a record is taken for all that, what is answered otherwise behind it.
+// Where a record is taken for all that, what is answered otherwise after it.
 #[rattlefmt::skip]
 static TAKEN: [Taken; 17] = [
     (0, 1, &[(6, Err((7, 0))), (7, Err((7, 0))), (9, Err((8, 2))), (10, Err((8, 2))), (11, Err((4, 4))),
@@ -201,7 +201,7 @@ fn dropped(rt: HostRuntime) -> Result<(), Fail> {
     drop_each(rt.alloc(), &SMALL, &DROPPED)
 }
 
-// What is answered otherwise behind a record that is taken with this field changed.
+// What is answered otherwise after a record that is taken with this field changed.
 fn behind(taken: &'static [Taken], at: usize, field: usize) -> &'static [Change] {
     for (place, other, changes) in taken {
         if *place == at && *other == field {

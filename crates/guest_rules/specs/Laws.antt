@@ -11,7 +11,7 @@ use Rattle.vocabulary.specs.declared.Vocabulary.{Vocabulary}
 use Rattle.vocabulary.specs.Vocabularies.{concepts, concept_at}
 use Rattle.calculus.specs.declared.rule.Principals.{Principals}
 use Rattle.calculus.specs.Premises.{p_alone}
-use Rattle.calculus.specs.Cases.{Inhabits}
+use Rattle.calculus.specs.Inhabiting.{Inhabits}
 use Rattle.calculus.specs.Schemas.{Lawful}
 use Rattle.schemas.specs.Tests.{tagged, first_of, second_of}
 use Rattle.schemas.specs.House.{schema}

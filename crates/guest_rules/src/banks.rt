@@ -67,6 +67,7 @@ fn prepare(rt: &impl Abort, docket: &mut Docket) {
     assert_eq!(rt; told(docket.seal()), Ok(0));
 }
 
+/// A new docket with room for eight concepts and sixteen lines.
 pub fn opened<'a>(memory: &'a mut [Concept], lines: &'a mut [Line]) -> Result<Docket<'a>, Fail> {
     match Docket::open(8, 16, memory, lines) {
         Ok(docket) => Ok(docket),

@@ -27,7 +27,7 @@ const FILINGS: [Filing; 24] = [
     (Lent::Guested, 2, [1, 2, 0], [0, 0], &[1, 2], Ok(1)),
     (Lent::House, 3, [3, 0, 0], [1, 0], &[3], Ok(2)),
     (Lent::Guested, 11, [5, 0, 0], [0, 3], &[5], Err((4, 5))),
-    // each behind the conclusion of its place
+    // each after the conclusion of its place
     (Lent::Guested, 11, [5, 0, 0], [2, 0], &[5], Err((9, 3))),
     (Lent::Guested, 11, [5, 0, 0], [0, 1], &[5], Err((9, 1))),
     // "some R C", where C is "D and E"; "D or E" itself; p outside the label; concepts that the rule doesn't use

@@ -24,7 +24,7 @@ place_left f n i total passed l has =
     let e = ap length more.2 in
     omega (arith, before, count)
 
--- what the records up to i have done: whatever the rest replies stands behind the replies so far
+-- what the records up to i have done: whatever the rest replies stands after the replies so far
 abbrev pub TakenTo : Calculus → List ℕ → ℕ → Docket → List ℕ → List Reply → Docket → List ℕ → Type 0
 TakenTo k f i d old rs m mid = (ss : List Reply) (e : Docket) (new : List ℕ) → RecordsTaken k f i m mid ss e new → RecordsTaken k f 0 d old (rs ++ ss) e new
 
@@ -37,7 +37,7 @@ taken_more k f i n d m m' old mid mid' rs r l h takes before ss e new rest =
 pub taken_all : (k : Calculus) (f : List ℕ) (i : ℕ) (d m : Docket) (old mid : List ℕ) (rs : List Reply) → length f ≤ i → TakenTo k f i d old rs m mid → RecordsTaken k f 0 d old rs m mid
 taken_all k f i d m old mid rs l before = subst (λ (xs : List Reply). RecordsTaken k f 0 d old xs m mid) (append-nil rs) (before [] m mid (ended l))
 
--- the places behind are as they were
+-- the places after are as they were
 untouched_more : (rs old : List Reply) (n : ℕ) (r : Reply) → drop n rs ≡ drop n old → drop (n + 1) (set rs n r) ≡ drop (n + 1) old
 untouched_more rs old n r e = drop-set-lt (n + 1) rs n r (omega arith) ∙ sym (drop-drop 1 n rs) ∙ ap (drop 1) e ∙ drop-drop 1 n old
 

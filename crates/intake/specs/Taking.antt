@@ -54,14 +54,14 @@ pub record TakesAt (k : Calculus) (f : List ℕ) (i : ℕ) (d : Docket) (old : L
   pub kind : r.kind ≡ kind_at f i
   pub takes : TakesContent k content d old r.answer e new
 
--- the records of f from offset i on, one behind the other, take docket d to e with these replies
+-- the records of f from offset i on, one after another, take docket d to e with these replies
 pub data RecordsTaken (k : Calculus) (f : List ℕ) : ℕ → Docket → List ℕ → List Reply → Docket → List ℕ → Type 0 where
   ended : {i : ℕ} {d : Docket} {old : List ℕ} → length f ≤ i → RecordsTaken k f i d old [] d old
   next : {i : ℕ} {d m e : Docket} {old mid new : List ℕ} {r : Reply} {rs : List Reply} → i < length f → TakesAt k f i d old r m mid
       → RecordsTaken k f (end_of f i) m mid rs e new → RecordsTaken k f i d old (r ∷ rs) e new
 
 -- Docket d with file f becomes e, its working rows go from old to new, and the memory for replies, rs at first, becomes ss.
--- The answer is the count of records: there is a reply to each, in order, and the places behind them are as they were. With
+-- The answer is the count of records: there is a reply to each, in order, and the places after them are as they were. With
 -- too few places nothing changes.
 abbrev pub FileTaken : Calculus → List ℕ → Docket → List ℕ → List Reply → Result ℕ Refusal → Docket → List ℕ → List Reply → Type 0
 FileTaken k f d old rs (Ok n) e new ss = HasRecords f n × (n ≤ length rs) × RecordsTaken k f 0 d old (take n ss) e new × (drop n ss ≡ drop n rs)

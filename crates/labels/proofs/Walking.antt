@@ -4,7 +4,7 @@ use Rattle.std.proofs.lemmas.List.{drop_more, drop_all}
 use Rattle.std.proofs.lemmas.Bool.{cases_lt, lt-ltb, le-leb, lt-leb}
 use Rattle.labels.specs.Labels.{falls}
 
--- what is left behind place k begins with the number at k
+-- what is left after place k begins with the number at k
 module _ (ms xs ys : List ℕ) (k m : ℕ) (left : xs ≡ drop k ms) (next : xs ≡ m ∷ ys) where
   pub walked_below : k < length ms
   walked_below = ⊎_elim

@@ -25,7 +25,7 @@ fn lowest(word: u64) -> Option<u16>
 pub fn first_outside(y: &[u64; 16], x: &[u64; 16]) -> Option<u16>
     ensures { result ≡ outside y.now x.now }
 {
-    // by place: a word is read from each of two rows, and its place is part of the answer
+    // by index: a word is read from each of two rows, and its place is part of the answer
     for w in 0..16 {
         if let Some(j) = lowest(y[w] ^ (y[w] & x[w])) {
             return Some(64 * w as u16 + j);
@@ -46,7 +46,7 @@ pub fn next_from(row: &[u64; 16], c: u16) -> Option<u16>
     ensures { result ≡ next_from row.now c }
 {
     let from = c as usize;
-    // by place: it begins in the middle of the row, and the place is part of the answer
+    // by index: it begins in the middle of the row, and the place is part of the answer
     for w in from / 64..16 {
         if let Some(j) = lowest(without_low(row[w], from.saturating_sub(64 * w))) {
             return Some(64 * w as u16 + j);

@@ -103,7 +103,7 @@ fn fill_claims(alloc: Global, docket: &mut Docket) -> Result<(), Fail> {
     Ok(())
 }
 
-// A member that doesn't stand is seen before, and one that doesn't rise behind; the last claim stands, and no later one.
+// A member that doesn't stand is seen before, and one that doesn't rise after; the last claim stands, and no later one.
 static CLAIMS_FULL: [Step; 10] = [
     Record(&[8, 0], Err((5, 256))),
     Record(&[8], Err((5, 256))),

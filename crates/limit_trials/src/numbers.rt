@@ -17,7 +17,7 @@ static UNUSED: [Step; 11] = [
     Record(&[3, 3, 1023, 65535], Err((3, 2))),
 ];
 
-// Names are below 1,024, and are seen before the number behind them.
+// Names are below 1,024, and are seen before the number after them.
 static NAMES: [Step; 6] = [
     Record(&[3, 2, 1024, 0], Err((3, 1))),
     Record(&[3, 2, 65535, 0], Err((3, 1))),

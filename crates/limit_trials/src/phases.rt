@@ -40,7 +40,7 @@ static FILED_BEFORE: [Step; 7] = [
 
 static SEAL: [Step; 1] = [Record(&[6], Ok(0))];
 
-// Behind it there is no axiom of either list and no other seal, whatever they name.
+// After it there is no axiom of either list and no other seal, whatever they name.
 static REFUSED_BEHIND: [Step; 11] = [
     Record(&[1, 0, 2], Err((2, 0))),
     Record(&[1, 2, 0], Err((2, 0))),

@@ -95,14 +95,14 @@ fn questions(rt: HostRuntime) -> Result<(), Fail> {
 // A question for a conclusion of {0}: by a rule, with p alone, its index, and the words of memory.
 type Question = (u16, u16, u16, usize);
 
-// Sixteen words are written, however few concepts stand, and none behind them; with fewer words it is refused.
+// Sixteen words are written, however few concepts stand, and none after them; with fewer words it is refused.
 static QUESTIONS: [(Question, Said<()>); 9] = [
     ((6, 6, 0, 16), Ok(())),
     ((6, 6, 0, 17), Ok(())),
     ((6, 6, 0, 18), Ok(())),
     ((6, 6, 0, 15), Err((3, 6))),
     ((6, 6, 0, 0), Err((3, 6))),
-    // what is seen before that, and what is seen behind it
+    // what is seen before that, and what is seen after it
     ((11, 6, 0, 15), Err((3, 0))),
     ((6, 6, 1, 15), Err((3, 4))),
     ((6, 7, 0, 15), Err((3, 6))),

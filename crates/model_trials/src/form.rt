@@ -59,7 +59,7 @@ static MARKS: [Step; 14] = [
     Record(&[10, 3, 0, 3, 2, 0, 0, 0, 0, 0, 3, 0], Err((12, 2))),
 ];
 
-// The same of edges, whose places go on behind the marks.
+// The same of edges, whose places go on after the marks.
 static EDGES: [Step; 15] = [
     Record(&[10, 3, 0, 3, 0, 64, 0, 0], Err((12, 1))),
     Record(&[10, 3, 0, 3, 0, 0, 3, 0], Err((12, 1))),

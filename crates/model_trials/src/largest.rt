@@ -20,7 +20,7 @@ fn is_marked(element: u16, name: u16) -> bool {
     (element >> (name / 4 % 8)) % 2 == name % 2
 }
 
-// Concept `i` as it is filed: 32 names, and behind them "or", "or", "and", "and", "some" and "only", over and over.
+// Concept `i` as it is filed: 32 names, and after them "or", "or", "and", "and", "some" and "only", over and over.
 fn filed(i: u16) -> [u16; 3] {
     let (a, b) = (i.saturating_sub(7), i.saturating_sub(25));
     match i % 6 {

@@ -146,7 +146,7 @@ static NO_ELEMENT: Given = (0, &[], &[]);
 // What the memory holds before a call.
 const OLD: u64 = 0x5555_5555_5555_5555;
 
-// The memory behind a call that has written these rows: two words more than they need, as they were.
+// The memory after a call that has written these rows: two words more than they need, as they were.
 fn written(rows: &[Row; 11]) -> [u64; 46] {
     array::from_fn(|i| match rows.get(i / 4) {
         Some(row) => row[i % 4],
@@ -179,7 +179,7 @@ fn judge(
     expect("rows", rows, memory)
 }
 
-// Behind an acceptance, and behind 14 and 15, the rows hold the evaluation.
+// After an acceptance, and after 14 and 15, the rows hold the evaluation.
 #[test]
 fn evaluated(rt: HostRuntime) -> Result<(), Fail> {
     let mut concepts = [Concept::Top; 11];
@@ -206,7 +206,7 @@ fn evaluated(rt: HostRuntime) -> Result<(), Fail> {
     Ok(())
 }
 
-// Behind every other refusal they are as they were.
+// After every other refusal they are as they were.
 #[test]
 fn untouched(rt: HostRuntime) -> Result<(), Fail> {
     let mut concepts = [Concept::Top; 11];

@@ -113,7 +113,7 @@ static PARTS: [Row; 14] = [
     (2, 3, Ok(0)),
 ];
 
-// The mates behind all pairings, and the concepts that have none.
+// The mates after all pairings, and the concepts that have none.
 static MATES: [Step; 26] = [
     Mate(0, Ok(Some(1))),
     Mate(1, Ok(Some(0))),

@@ -15,7 +15,7 @@ part_back f i n k b is h =
     let whole : k + (n - k) ≡ n = omega arith in
     rw is (ap (λ m. drop k (take m (drop i f))) (sym whole) ∙ drop-take k (n - k) (drop i f) ∙ ap (take (n - k)) (drop-drop k i f))
 
--- what is cut out of the file behind the head
+-- what is cut out of the file after the head
 pub body_part : (f b : List ℕ) (n : ℕ) → n ≡ size_at f 0 → b ≡ slice_range f 4 (4 + n) → b ≡ part f 4 (size_at f 0)
 body_part f b n size is =
     let count : 4 + n - 4 ≡ size_at f 0 = omega (arith, size) in

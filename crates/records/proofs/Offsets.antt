@@ -5,7 +5,7 @@ use Rattle.std.proofs.lemmas.Bool.{cases_lt}
 use Rattle.records.specs.Records.{end_of}
 use Rattle.records.specs.Files.{Lies, ended, behind, bytes_of, together, FilesAreTheirRecords}
 
--- a record ends behind its beginning
+-- a record ends after its beginning
 pub end_above : (f : List ℕ) (i : ℕ) → i < length f → i < end_of f i
 end_above f i h = omega arith
 
@@ -34,7 +34,7 @@ lies_only f i (k ∷ is) (j ∷ js) (behind l p) (behind m q) = ap (λ xs. i ∷
 pub lies_end : (f : List ℕ) (i : ℕ) (is : List ℕ) → length f ≤ i → Lies f i is → is ≡ []
 lies_end f i is h p = lies_only f i [] is (ended h) p
 
--- before the end there is one, and the others follow behind it
+-- before the end there is one, and the others follow after it
 pub lies_more : (f : List ℕ) (i : ℕ) (is : List ℕ) → i < length f → Lies f i is → (js : List ℕ) × Lies f (end_of f i) js × (is ≡ i ∷ js)
 lies_more f i [] h (ended l) = let z : ⊥ = omega arith in absurd z
 lies_more f i (k ∷ js) h (behind l p) = (js, p, refl)

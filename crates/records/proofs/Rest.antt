@@ -4,7 +4,7 @@ use Rattle.std.proofs.lemmas.List.{get_or-drop, drop-drop}
 use Rattle.file_bytes.specs.Bytes.{word, part}
 use Rattle.records.specs.declared.record.Record.{Record}
 use Rattle.records.specs.declared.record.Record.TheVariants.{Inclusion, Transitivity, Concept, Pair, Axiom, Seal, Line, Claim, CloseEmpty, CloseInhabited}
-use Rattle.records.specs.Records.{kind_at, size_at, end_of, marks_at, Whole, Stands, Content}
+use Rattle.records.specs.Records.{kind_at, size_at, end_of, marks_at, Whole, LiesAt, Content}
 use Rattle.refusals.specs.declared.Refusal.TheVariants.{Malformed}
 
 rest_word : (f : List ℕ) (i k : ℕ) → word (drop i f) k ≡ word f (i + k)
@@ -44,7 +44,7 @@ module _ (f g : List ℕ) (i j : ℕ) (inside_f : i ≤ length f) (inside_g : j 
       let at_j : j + (12 + m) ≡ j + 12 + m = omega arith in
       ap (λ k. part f k n) at_i ∙ same_part (12 + m) n ∙ ap (λ k. part g k n) at_j
 
-  pub same_stands : (x : Record) → Stands f i x → Stands g j x
+  pub same_stands : (x : Record) → LiesAt f i x → LiesAt g j x
   same_stands (Inclusion body) (w, kind, size, b) = (same_whole w, same_kind ∙ kind, same_size ∙ size, b ∙ same_part 4 4)
   same_stands (Transitivity body) (w, kind, size, b) = (same_whole w, same_kind ∙ kind, same_size ∙ size, b ∙ same_part 4 2)
   same_stands (Concept body) (w, kind, size, b) = (same_whole w, same_kind ∙ kind, same_size ∙ size, b ∙ same_part 4 6)
@@ -69,7 +69,7 @@ module _ (f g : List ℕ) (i j : ℕ) (inside_f : i ≤ length f) (inside_g : j 
   same_end = omega (arith, same_size, same_length)
 
 -- the record that stands at the beginning of the rest, or that none can, is what the file has there
-pub rest_content : (f rest : List ℕ) (i : ℕ) → i ≤ length f → rest ≡ drop i f → (r : Option Record) → MatchOption r ((x : Record) → Stands rest 0 x → ⊥) (Stands rest 0)
+pub rest_content : (f rest : List ℕ) (i : ℕ) → i ≤ length f → rest ≡ drop i f → (r : Option Record) → MatchOption r ((x : Record) → LiesAt rest 0 x → ⊥) (LiesAt rest 0)
     → Content f i (ok_or r (Malformed i))
 rest_content f rest i h is None none = (refl, λ x s. none x (same_stands f rest i 0 h (omega arith) (sym is) x s))
 rest_content f rest i h is (Some x) s = same_stands rest f 0 i (omega arith) h is x s

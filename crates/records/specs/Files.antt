@@ -1,9 +1,9 @@
--- A whole file is its records, one behind the other.
+-- A whole file is its records, one after another.
 use Rattle.std.specs.Prelude.{◌≡◌, ℕ, ◌-◌, ◌<◌, ◌≤◌, List, [], ◌∷◌, ◌++◌, length}
 use Rattle.file_bytes.specs.Bytes.{part}
 use Rattle.records.specs.Records.{end_of}
 
--- From offset i on, the file's records begin at these offsets, one behind the other.
+-- From offset i on, the file's records begin at these offsets, one after another.
 pub data Lies (f : List ℕ) : ℕ → List ℕ → Type 0 where
   ended : {i : ℕ} → length f ≤ i → Lies f i []
   behind : {i : ℕ} {is : List ℕ} → i < length f → Lies f (end_of f i) is → Lies f i (i ∷ is)

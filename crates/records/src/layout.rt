@@ -1,6 +1,6 @@
 ghost use Rattle.std.specs.Prelude.{◌≡◌, MatchOption};
 ghost use Rattle.records.specs.declared.record.Record.{Record};
-ghost use Rattle.records.specs.Records.{kind_at, end_of, Stands};
+ghost use Rattle.records.specs.Records.{kind_at, end_of, LiesAt};
 
 use crate::kind::Kind;
 use crate::record::Record;
@@ -24,7 +24,7 @@ pub(crate) fn extent(rest: &[u8]) -> usize
 
 // The record, unless it is malformed: cut off, of an unknown kind, or of a length that its kind can't have.
 pub(crate) fn content(rest: &[u8]) -> Option<Record<'_>>
-    ensures { MatchOption result ((x : Record) → Stands rest.now 0 x → ⊥) (Stands rest.now 0) }
+    ensures { MatchOption result ((x : Record) → LiesAt rest.now 0 x → ⊥) (LiesAt rest.now 0) }
 {
     let kind = Kind::try_from(kind_number(rest)).ok()?;
     let size = word(rest, 0) as usize;

@@ -36,7 +36,7 @@ pub enum Record<'f> {
     CloseEmpty {
         body: &'f [u8],
     },
-    // claim, point, n, count of marks; then the marks; then the edges
+    // claim, point, size, count of marks; then the marks; then the edges
     CloseInhabited {
         body: &'f [u8],
         marks: &'f [u8],

@@ -27,7 +27,7 @@ when_none false x h = refl
 pub none_when : {A : Type 0} (b : Bool) (x : A) → b ≡ false → when b x ≡ None
 none_when b x h = ap (λ c. when c x) h
 
--- rows behind others
+-- rows after others
 pub first_append : {A : Type 0} (xs ys : List (Option A)) → first (xs ++ ys) ≡ otherwise (first xs) (first ys)
 first_append [] ys = refl
 first_append (None ∷ xs) ys = first_append xs ys

@@ -1,13 +1,13 @@
 #![tactic(auto)]
 
-ghost use Rattle.std.specs.Prelude.{◌≡◌, ◌*◌, ◌<◌, false, ◌&&◌, ◌||◌, ◌==◌, nat_lt};
+ghost use Rattle.std.specs.Prelude.{◌≡◌, ◌<◌, false, ◌&&◌, ◌||◌, ◌==◌, nat_lt};
 ghost use Rattle.rows.specs.Rows.{HasRow, contains, turned, IsRow, RowBecomes, RowWritten};
 
 use bits::{bit, low_bits};
 use std::array;
 
 // Sets of elements, each in a row of four words. Row c has the words 4c to 4c + 3, and the elements are 0 to 255:
-// element e is bit e mod 64 of word 4c + e div 64. The words are the host's memory, and one
+// element e is bit e mod 64 of word 4c + e div 64. The words lie in one slice, and one
 // row is made of others of the same slice, so a row is a place in it.
 
 /// The words of row `c`.

@@ -14,7 +14,7 @@ use Rattle.vocabulary.specs.Keeping.{Kept}
 use Rattle.vocabulary.specs.Pairing.{AreMates}
 use Rattle.vocabulary.specs.Roles.{role_axioms}
 use Rattle.vocabulary.specs.Vocabularies.{concepts}
-use Rattle.calculus.specs.Cases.{MeetsAxioms}
+use Rattle.calculus.specs.Inhabiting.{MeetsAxioms}
 use Rattle.schemas.specs.Table.{Applies, bottom, clash, conjunction, disjunction, narrower, general, cut, inverse_cut, transitive_cut, neighbour, conclusions, Lists, kept, first_part, second_part, first_case, second_case, the_narrower, the_general, cut_p, cut_q, inverse_p, inverse_q, inverse_s, transitive_p, transitive_q, transitive_s, asked, passed, carried, of_all}
 
 module _ (v : Vocabulary) (I : Interpretation) (keeps : Kept v) (meets : MeetsAxioms I v) where

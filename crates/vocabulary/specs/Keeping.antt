@@ -43,6 +43,7 @@ pub record MatesKept (cs : List Concept) (m : Mates) : Type 0 where
 abbrev pub AxiomsStand : List Concept → List ℕ → Type 0
 AxiomsStand cs listed = (c : ℕ) → Memᴰ c listed → c < length cs
 
+-- all that a vocabulary keeps
 pub record Kept (v : Vocabulary) : Type 0 where
   pub roles_kept : RolesKept v.roles
   pub concepts_kept : ConceptsKept v.concepts

@@ -25,7 +25,7 @@ pub const MOST_CONCEPTS: usize = 1024;
 /// The most axioms of either list.
 pub const MOST_AXIOMS: usize = 256;
 
-/// What has been said before any evidence: the role axioms, the concepts, which of them are mates, and the axioms. What every
+/// What lines and models are judged by: the role axioms, the concepts, which of them are mates, and the axioms. What every
 /// vocabulary keeps (`Kept`) is no ghost field: it speaks of ways between roles and of places in lists, of which there may be
 /// several, and what a ghost field says must have one proof at most.
 #[derive(Drop)]

@@ -1,4 +1,4 @@
-ghost use Rattle.std.specs.Prelude.{◌≡◌, ◌&&◌, []};
+ghost use Rattle.std.specs.Prelude.{◌≡◌, []};
 ghost use Rattle.logic.specs.Roles.{NamesBelow};
 ghost use Rattle.vocabulary.specs.Roles.{role_axioms, is_below, is_transitive, RolesKept, RoleAxiomFiled};
 
