@@ -1,2 +1,3 @@
+pub mod Inputs
 pub mod Reports
 pub mod Runs

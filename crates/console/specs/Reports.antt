@@ -1,5 +1,5 @@
--- What a program prints of a dossier, and what it read.
-use Rattle.std.specs.Prelude.{◌≡◌, ℕ, ◌+◌, List, [], ◌∷◌, ◌++◌, length, take, Option, IfSome, codes}
+-- What a program prints of a dossier.
+use Rattle.std.specs.Prelude.{ℕ, ◌+◌, List, [], ◌∷◌, ◌++◌, codes}
 use Rattle.std.specs.Fmt.{decimal}
 use Rattle.claims.specs.declared.Status.TheVariants.{Open, Empty, Inhabited}
 use Rattle.claims.specs.Claiming.{filed, tallied}
@@ -27,7 +27,3 @@ report_text rs tally = reply_lines 0 rs ++ last_line tally
 -- the open, the empty and the inhabited claims of a docket
 abbrev pub tally_of : Docket → ℕ × ℕ × ℕ
 tally_of d = (tallied Open (filed d.claims), tallied Empty (filed d.claims), tallied Inhabited (filed d.claims))
-
--- the first n bytes of the buffer are the first of the input, as many as the buffer holds or the input has
-abbrev pub HasFirst : Option (List ℕ) → List ℕ → ℕ → Type 0
-HasFirst input buffer n = IfSome input (λ xs. take n buffer ≡ take (length buffer) xs)

@@ -25,8 +25,8 @@ line_places m = length m.lines.now
 abbrev pub reply_places : Memory → ℕ
 reply_places m = length m.replies.now
 
--- A new docket with room for as many concepts and lines as the memory has places for takes the file, record by record, with the ten rules; and
--- the report of its replies, and of its claims at the end, is what the output grew by.
+-- A new docket with room for as many concepts and lines as the memory has places for takes the file, record by record, with the
+-- ten rules; and the report of its replies, and of its claims at the end, is what the output grew by.
 pub record Served (file : List ℕ) (m : Memory) (before after : Option (List ℕ)) : Type 0 where
   pub opened : Docket
   pub closed : Docket

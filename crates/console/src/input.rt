@@ -1,5 +1,5 @@
 ghost use Rattle.std.specs.Prelude.{◌≤◌, length, IfOk};
-ghost use Rattle.console.specs.Reports.{HasFirst};
+ghost use Rattle.console.specs.Inputs.{HasFirst};
 
 use std::io;
 use std::io::Read;

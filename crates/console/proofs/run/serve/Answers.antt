@@ -1,10 +1,11 @@
 use Rattle.std.proofs.Common.{ℕ, take, Result, subst}
 use Rattle.std.specs.Io.KnownBytes.{Appends}
+use Rattle.std.proofs.KnownBytes.{Appends-kept}
 use Rattle.refusals.specs.declared.Refusal.{Refusal}
 use Rattle.schemas.specs.House.{house}
 use Rattle.intake.specs.Taking.{FileTaken}
 use Rattle.console.specs.Reports.{report_text}
-use Rattle.console.proofs.Serving.{answered, flushed}
+use Rattle.console.proofs.Serving.{answered}
 use Rattle.console.proofs.run.serve.Goals as goal
 
 pub returns : goal.returns
@@ -29,5 +30,5 @@ returns g c =
       concept_room = concept_room;
       line_room = line_room;
       taken = taken;
-      printed = flushed _ _ _ _ written c.in_ok-flush.ensures.bytes;
+      printed = Appends-kept _ _ _ _ written c.in_ok-flush.ensures.bytes;
     }
