@@ -1,4 +1,4 @@
--- What it says of a draft that no row refuses it.
+-- What it says of a draft that no check refuses it.
 use Rattle.std.proofs.Common.{◌≡◌, ℕ, ◌+◌, ◌<◌, Bool, true, false, cond, not, ◌&&◌, eqb, ltb, leb, List, [], ◌∷◌, length, Some, None, Option, refl, ap, ⊎_elim, arith}
 use Rattle.std.proofs.lemmas.Bool.{cases_eq, lt-ltb, lt-leb, eqb-true, eq-eqb, ne_eqb, not-false, leb-false, not_from_true, ltb-true}
 use Rattle.refusals.specs.declared.Refusal.TheVariants.{Absent, Order, Unlicensed}
@@ -14,7 +14,7 @@ use Rattle.calculus.specs.Calculi.{Calculus}
 use Rattle.book.specs.declared.filing.Draft.{Draft}
 use Rattle.book.specs.declared.line.Line.{Line}
 use Rattle.book.specs.Lines.{cited_lines, label_of}
-use Rattle.book.specs.Drafts.{members, label, line_of, conclusion, least_outside, unfit, draft_rows, Admitted, RowsAreRight}
+use Rattle.book.specs.Drafts.{members, label, line_of, conclusion, least_outside, unfit, draft_checks, Admitted, ChecksAreRight}
 use Rattle.bits.proofs.Tests.{never}
 
 with_none : {A B : Type 0} (g : A → B) (o : Option A) → with g o ≡ None → o ≡ None
@@ -67,17 +67,17 @@ not_chosen false o h = refl
 
 module _ (k : Calculus) (v : Vocabulary) (ls : List Line) (room : ℕ) (f : Draft) where
   -- the two rows of the cited lines
-  abbrev unfit_rows : List (Option ℕ)
-  unfit_rows =
+  abbrev unfit_checks : List (Option ℕ)
+  unfit_checks =
       cond (ltb 0 (k.cites f.rule)) (least_outside (label_of ls f.m) (conclusion k v f (label f) 0)) None
       ∷ cond (ltb 1 (k.cites f.rule)) (least_outside (label_of ls f.n) (conclusion k v f (label f) 1)) None ∷ []
 
-  pub admitted : first (draft_rows k v ls room f) ≡ None → Admitted k v ls room f
+  pub admitted : first (draft_checks k v ls room f) ≡ None → Admitted k v ls room f
   admitted h =
-      let r = clear (draft_rows k v ls room f) h in
+      let r = clear (draft_checks k v ls room f) h in
       let a = r.1.1.1 in
       let l = a.1.1.1.1.1.1 in
-      let u = clear unfit_rows (with_none Unlicensed (unfit k v ls f (label f)) l.1.1.1.0) in
+      let u = clear unfit_checks (with_none Unlicensed (unfit k v ls f (label f)) l.1.1.1.0) in
       record {
         known = not-false (k.has f.rule) (when_none (not (k.has f.rule)) _ r.0);
         first_unused = unused (k.cites f.rule) 1 f.m (when_none (ltb (k.cites f.rule) 1 && not (eqb f.m 0)) _ r.1.0);
@@ -97,8 +97,8 @@ module _ (k : Calculus) (v : Vocabulary) (ls : List Line) (room : ℕ) (f : Draf
         };
       }
 
-  pub no_row : Admitted k v ls room f → first (draft_rows k v ls room f) ≡ None
-  no_row a = cleared (draft_rows k v ls room f) (
+  pub no_check : Admitted k v ls room f → first (draft_checks k v ls room f) ≡ None
+  no_check a = cleared (draft_checks k v ls room f) (
     none_when (not (k.has f.rule)) _ (not_from_true (k.has f.rule) a.known),
     (
       none_when (ltb (k.cites f.rule) 1 && not (eqb f.m 0)) _ (used (k.cites f.rule) 1 f.m a.first_unused),
@@ -123,7 +123,7 @@ module _ (k : Calculus) (v : Vocabulary) (ls : List Line) (room : ℕ) (f : Draf
                         (
                           none_when (not (k.applies f.rule v f.on (label f))) _ (not_from_true (k.applies f.rule v f.on (label f)) a.licensed.applies),
                           (
-                            none_with Unlicensed (unfit k v ls f (label f)) (cleared unfit_rows (
+                            none_with Unlicensed (unfit k v ls f (label f)) (cleared unfit_checks (
                               not_chosen (ltb 0 (k.cites f.rule)) _ (λ t. none_outside (label_of ls f.m) (conclusion k v f (label f) 0) (a.licensed.first_within (ltb-true 0 (k.cites f.rule) t))),
                               (not_chosen (ltb 1 (k.cites f.rule)) _ (λ t. none_outside (label_of ls f.n) (conclusion k v f (label f) 1) (a.licensed.second_within (ltb-true 1 (k.cites f.rule) t))), tt),
                             )),
@@ -156,5 +156,5 @@ module _ (k : Calculus) (v : Vocabulary) (ls : List Line) (room : ℕ) (f : Draf
       (cases_eq (k.cites f.rule) 1))
       (cases_eq (k.cites f.rule) 0)
 
-pub rows_are_right : RowsAreRight
-rows_are_right k v ls room f = (admitted k v ls room f, no_row k v ls room f)
+pub checks_are_right : ChecksAreRight
+checks_are_right k v ls room f = (admitted k v ls room f, no_check k v ls room f)

@@ -41,49 +41,49 @@ unfit k v ls f x = first (
     cond (nat_lt 0 (k.cites f.rule)) (least_outside (label_of ls f.m) (conclusion k v f x 0)) None
     ∷ cond (nat_lt 1 (k.cites f.rule)) (least_outside (label_of ls f.n) (conclusion k v f x 1)) None ∷ [])
 
--- Filing a draft checks four groups of rows, one after another: numbers in range, entries that stand, room and order, and
+-- Filing a draft has four groups of checks, one after another: numbers in range, entries that stand, room and order, and
 -- the licence.
 
 -- the rule is in the bank, and what it doesn't use is 0
-abbrev pub range_rows : Calculus → Draft → List (Option Refusal)
-range_rows k f =
+abbrev pub range_checks : Calculus → Draft → List (Option Refusal)
+range_checks k f =
     when (not (k.has f.rule)) (Range 0)
     ∷ when (nat_lt (k.cites f.rule) 1 && not (f.m == 0)) (Range 4)
     ∷ when (nat_lt (k.cites f.rule) 2 && not (f.n == 0)) (Range 5) ∷ []
 
 -- what a step's principals are asked, where so many concepts stand
-abbrev pub principal_rows : ℕ → Principals → List (Option Refusal)
-principal_rows count on = when (nat_le count on.p) (Absent 1) ∷ when (nat_le count on.q) (Absent 2) ∷ when (nat_le count on.s) (Absent 3) ∷ []
+abbrev pub principal_checks : ℕ → Principals → List (Option Refusal)
+principal_checks count on = when (nat_le count on.p) (Absent 1) ∷ when (nat_le count on.q) (Absent 2) ∷ when (nat_le count on.s) (Absent 3) ∷ []
 
 -- what the draft names stands
-abbrev pub absent_rows : Calculus → Vocabulary → List Line → Draft → List (Option Refusal)
-absent_rows k v ls f =
-    principal_rows (length (concepts v)) f.on
+abbrev pub absent_checks : Calculus → Vocabulary → List Line → Draft → List (Option Refusal)
+absent_checks k v ls f =
+    principal_checks (length (concepts v)) f.on
     ++ when (nat_lt 0 (k.cites f.rule) && nat_le (length ls) f.m) (Absent 4)
     ∷ when (nat_lt 1 (k.cites f.rule) && nat_le (length ls) f.n) (Absent 5)
     ∷ with (λ i. Absent (i + 6)) (absent_at (length (concepts v)) (members f)) ∷ []
 
 -- the step applies, and each cited line's label lies within its conclusion
-abbrev pub licence_rows : Calculus → Vocabulary → List Line → Draft → List (Option Refusal)
-licence_rows k v ls f =
+abbrev pub licence_checks : Calculus → Vocabulary → List Line → Draft → List (Option Refusal)
+licence_checks k v ls f =
     when (not (k.applies f.rule v f.on (label f))) (Inapplicable f.rule)
     ∷ with Unlicensed (unfit k v ls f (label f)) ∷ []
 
 -- a line is free, where there is room for so many, and the label rises
-abbrev pub late_rows : Calculus → Vocabulary → List Line → ℕ → Draft → List (Option Refusal)
-late_rows k v ls room f =
+abbrev pub late_checks : Calculus → Vocabulary → List Line → ℕ → Draft → List (Option Refusal)
+late_checks k v ls room f =
     when (nat_le room (length ls)) (Full room)
     ∷ with (λ i. Order (i + 6)) (falling_at (members f))
-    ∷ licence_rows k v ls f
+    ∷ licence_checks k v ls f
 
 -- all of them, in this order
-abbrev pub draft_rows : Calculus → Vocabulary → List Line → ℕ → Draft → List (Option Refusal)
-draft_rows k v ls room f = range_rows k f ++ (absent_rows k v ls f ++ late_rows k v ls room f)
+abbrev pub draft_checks : Calculus → Vocabulary → List Line → ℕ → Draft → List (Option Refusal)
+draft_checks k v ls room f = range_checks k f ++ (absent_checks k v ls f ++ late_checks k v ls room f)
 
--- the line that a draft becomes, or the first row that refuses
+-- the line that a draft becomes, or the first check that refuses
 abbrev pub Checked : Calculus → Vocabulary → List Line → ℕ → Draft → Result Line Refusal → Type 0
-Checked k v ls room f (Ok l) = (first (draft_rows k v ls room f) ≡ None) × (l ≡ line_of k f)
-Checked k v ls room f (Err x) = first (draft_rows k v ls room f) ≡ Some x
+Checked k v ls room f (Ok l) = (first (draft_checks k v ls room f) ≡ None) × (l ≡ line_of k f)
+Checked k v ls room f (Err x) = first (draft_checks k v ls room f) ≡ Some x
 
 -- A DRAFT IS LICENSED when its step applies and each cited line's label lies within the conclusion of its place.
 pub record Licensed (k : Calculus) (v : Vocabulary) (ls : List Line) (f : Draft) : Type 0 where
@@ -106,6 +106,6 @@ pub record Admitted (k : Calculus) (v : Vocabulary) (ls : List Line) (room : ℕ
   pub rising : falling_at (members f) ≡ None
   pub licensed : Licensed k v ls f
 
--- the rows of a draft are clear exactly if it is admitted
-abbrev pub RowsAreRight : Type 0
-RowsAreRight = (k : Calculus) (v : Vocabulary) (ls : List Line) (room : ℕ) (f : Draft) → first (draft_rows k v ls room f) ≡ None ↔ Admitted k v ls room f
+-- the checks of a draft all pass exactly if it is admitted
+abbrev pub ChecksAreRight : Type 0
+ChecksAreRight = (k : Calculus) (v : Vocabulary) (ls : List Line) (room : ℕ) (f : Draft) → first (draft_checks k v ls room f) ≡ None ↔ Admitted k v ls room f

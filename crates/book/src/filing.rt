@@ -1,6 +1,6 @@
 ghost use Rattle.std.specs.Prelude.{◌≡◌};
 ghost use Rattle.book.specs.Lines.{label_of};
-ghost use Rattle.book.specs.Drafts.{Checked, RowsAreRight, range_rows, absent_rows, unfit, least_outside, conclusion};
+ghost use Rattle.book.specs.Drafts.{Checked, ChecksAreRight, range_checks, absent_checks, unfit, least_outside, conclusion};
 ghost use Rattle.refusals.specs.Checks.{Passed};
 
 use crate::line::{Cited, Line, Step};
@@ -27,7 +27,7 @@ pub struct Draft<'m> {
 
 // The rule number and the cited lines that it doesn't use.
 fn check_range<B: Bank>(bank: &B, f: &Draft) -> Result<(), Refusal>
-    ensures { Passed (range_rows (B.Bank.calculus bank.now) f.now) result }
+    ensures { Passed (range_checks (B.Bank.calculus bank.now) f.now) result }
 {
     if !bank.has(f.rule) {
         return Err(Refusal::Range(0));
@@ -44,7 +44,7 @@ fn check_range<B: Bank>(bank: &B, f: &Draft) -> Result<(), Refusal>
 
 // What the draft names has to stand.
 fn check_named<B: Bank>(bank: &B, v: &Vocabulary, lines: &[Line], f: &Draft) -> Result<(), Refusal>
-    ensures { Passed (absent_rows (B.Bank.calculus bank.now) v.now lines.now f.now) result }
+    ensures { Passed (absent_checks (B.Bank.calculus bank.now) v.now lines.now f.now) result }
 {
     let count = v.len();
     check_principals(f.on, count)?;
@@ -153,8 +153,8 @@ pub fn check<B: Bank>(
     })
 }
 
-/// That no row of the table speaks against a draft says exactly that it is admitted, licence and all. A call of it does
+/// That no check of the table refuses a draft says exactly that it is admitted, licence and all. A call of it does
 /// nothing; that it is proved says that it holds.
-pub fn rows_are_right()
-    ensures { RowsAreRight }
+pub fn checks_are_right()
+    ensures { ChecksAreRight }
 {}

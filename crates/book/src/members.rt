@@ -3,7 +3,7 @@ ghost use Rattle.file_bytes.specs.Bytes.{numbers};
 ghost use Rattle.labels.specs.Labels.{absent_at, falling_at};
 ghost use Rattle.refusals.specs.Checks.{with, Passed};
 ghost use Rattle.refusals.specs.declared.Refusal.TheVariants.{Absent, Order};
-ghost use Rattle.book.specs.Drafts.{principal_rows};
+ghost use Rattle.book.specs.Drafts.{principal_checks};
 
 use calculus::rule::Principals;
 use labels::members::{first_absent, first_falling};
@@ -12,7 +12,7 @@ use refusals::checks::check_stands;
 
 /// Whether the concepts that a step names stand, where `count` concepts do; they have the positions 1 to 3 of their call.
 pub fn check_principals(on: Principals, count: usize) -> Result<(), Refusal>
-    ensures { Passed (principal_rows count on) result }
+    ensures { Passed (principal_checks count on) result }
 {
     check_stands(on.p, count, 1)?;
     check_stands(on.q, count, 2)?;

@@ -1,3 +1,3 @@
+pub mod Answering
 pub mod Lines
 pub mod Reading
-pub mod Serving

@@ -1,9 +1,6 @@
 -- What a program prints of a dossier.
 use Rattle.std.specs.Prelude.{ℕ, ◌+◌, List, [], ◌∷◌, ◌++◌, codes}
 use Rattle.std.specs.Fmt.{decimal}
-use Rattle.claims.specs.declared.Status.TheVariants.{Open, Empty, Inhabited}
-use Rattle.claims.specs.Claiming.{filed, tallied}
-use Rattle.docket.specs.declared.Docket.{Docket}
 use Rattle.intake.specs.declared.Reply.{Reply}
 use Rattle.intake.specs.Printing.{reply_text}
 
@@ -23,7 +20,3 @@ last_line t = codes "end " ++ (decimal t.0 ++ (codes " " ++ (decimal t.1 ++ (cod
 -- the whole of it
 abbrev pub report_text : List Reply → ℕ × ℕ × ℕ → List ℕ
 report_text rs tally = reply_lines 0 rs ++ last_line tally
-
--- the open, the empty and the inhabited claims of a docket
-abbrev pub tally_of : Docket → ℕ × ℕ × ℕ
-tally_of d = (tallied Open (filed d.claims), tallied Empty (filed d.claims), tallied Inhabited (filed d.claims))

@@ -2,6 +2,7 @@
 
 #![tactic(auto)]
 
+pub mod answer;
 pub mod failure;
 pub mod input;
 pub mod report;

@@ -11,11 +11,11 @@ use Rattle.calculus.specs.Calculi.{Calculus}
 use Rattle.book.specs.declared.filing.Draft.{Draft}
 use Rattle.book.specs.declared.line.Line.{Line}
 use Rattle.book.specs.Lines.{cited_lines}
-use Rattle.book.specs.Drafts.{line_of, draft_rows}
+use Rattle.book.specs.Drafts.{line_of, draft_checks}
 use Rattle.book.proofs.Admitting.{admitted, cites_standing}
 
 pub never_unfit : (k : Calculus) (v : Vocabulary) (b s : Register Line) (ls : List Line) (n : ℕ) (f : Draft) (l : Line) (u : Unfit)
-    → ls ≡ entries b → n ≡ room b → first (draft_rows k v ls n f) ≡ None → l ≡ line_of k f → Pushed cited_lines b s l (Err u) → ⊥
+    → ls ≡ entries b → n ≡ room b → first (draft_checks k v ls n f) ≡ None → l ≡ line_of k f → Pushed cited_lines b s l (Err u) → ⊥
 never_unfit k v b s ls n f l Refers p q h e pushed =
     let a = admitted k v ls n f h in
     let below : all_below (cited_lines l) (length (entries b)) ≡ true = rw (e, ← p) (cites_standing k v ls n f a) in

@@ -10,7 +10,7 @@ use Rattle.vocabulary.proofs.Keeping.{kept_new, kept_role_axiom, kept_concept, k
 use Rattle.docket.specs.declared.Docket.{Docket}
 use Rattle.docket.specs.Fields.{use_of_first, out_of_range, Written}
 use Rattle.docket.specs.Dockets.{count}
-use Rattle.docket.specs.Calls.{Call, inclusion, transitivity, concept, pair, general, seal, line, claim, close_empty, close_inhabited, all_rows, Acts}
+use Rattle.docket.specs.Calls.{Call, inclusion, transitivity, concept, pair, «axiom», seal, line, claim, close_empty, close_inhabited, all_checks, Acts}
 use Rattle.docket.specs.Runs.{Reached, began, called}
 
 -- what is written within its range is in range
@@ -29,11 +29,11 @@ acts_kept c d e (Err f) h t = subst (λ (x : Docket). Kept x.vocabulary) (sym h.
 acts_kept (inclusion r s) d e (Ok i) h t = kept_role_axiom d.vocabulary e.vocabulary _ i h.1.0 t
 acts_kept (transitivity r) d e (Ok i) h t = kept_role_axiom d.vocabulary e.vocabulary _ i h.1.0 t
 acts_kept (concept n a b) d e (Ok i) h t =
-    let r = clear (all_rows (concept n a b) d) h.0 in
+    let r = clear (all_checks (concept n a b) d) h.0 in
     kept_concept d.vocabulary e.vocabulary h.1.0 i h.1.2 (in_range n a b h.1.0 h.1.1 (when_none (out_of_range (use_of_first n) a) _ r.1.1.0)) t
 acts_kept (pair x y) d e (Ok i) h t = kept_pair d.vocabulary e.vocabulary x y h.1.0 t
-acts_kept (general c) d e (Ok i) h t =
-    let r = clear (all_rows (general c) d) h.0 in
+acts_kept («axiom» c) d e (Ok i) h t =
+    let r = clear (all_checks («axiom» c) d) h.0 in
     kept_axiom d.vocabulary e.vocabulary c i h.1.0 (leb-false (count d) c (when_none (leb (count d) c) _ r.1.0)) t
 acts_kept seal d e (Ok i) h t = subst Kept (sym h.1.0) t
 acts_kept (line k f) d e (Ok i) h t = subst Kept (sym h.1.1) t

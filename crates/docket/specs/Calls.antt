@@ -17,12 +17,12 @@ use Rattle.claims.specs.Claiming.{filed, claim_at, is_open, ClaimFiled, Settled}
 use Rattle.calculus.specs.Calculi.{Calculus}
 use Rattle.book.specs.declared.filing.Draft.{Draft}
 use Rattle.book.specs.Lines.{cited_lines, label_of}
-use Rattle.book.specs.Drafts.{line_of, draft_rows}
+use Rattle.book.specs.Drafts.{line_of, draft_checks}
 use Rattle.docket.specs.declared.Docket.{Docket}
 use Rattle.docket.specs.declared.phase.Subject.{Subject}
 use Rattle.docket.specs.declared.phase.Subject.TheVariants.{RoleAxiom as RoleAxiomSubject, Concept as ConceptSubject, Pair as PairSubject, Axiom as AxiomSubject, Seal as SealSubject, Line as LineSubject, Claim as ClaimSubject, Closing as ClosingSubject}
 use Rattle.docket.specs.Phases.{admits, after}
-use Rattle.docket.specs.Fields.{concept_rows, Written}
+use Rattle.docket.specs.Fields.{concept_checks, Written}
 use Rattle.docket.specs.Dockets.{count, lines}
 
 -- a call, with the numbers that it is given
@@ -36,7 +36,7 @@ pub data Call : Type 0 where
   -- two concepts
   pair : ℕ → ℕ → Call
   -- an axiom: a concept that holds of every element
-  general : ℕ → Call
+  «axiom» : ℕ → Call
   seal : Call
   -- a line by the rules of a bank
   line : Calculus → Draft → Call
@@ -52,7 +52,7 @@ subject_of (inclusion r s) = RoleAxiomSubject
 subject_of (transitivity r) = RoleAxiomSubject
 subject_of (concept t a b) = ConceptSubject
 subject_of (pair c d) = PairSubject
-subject_of (general c) = AxiomSubject
+subject_of («axiom» c) = AxiomSubject
 subject_of seal = SealSubject
 subject_of (line k f) = LineSubject
 subject_of (claim ms) = ClaimSubject
@@ -60,45 +60,45 @@ subject_of (close_empty c n) = ClosingSubject
 subject_of (close_inhabited c m old new) = ClosingSubject
 
 -- what speaks against a call in its phase, in the order of the table of refusals
-abbrev pub rows : Call → Docket → List (Option Refusal)
-rows (inclusion r s) d =
+abbrev pub checks : Call → Docket → List (Option Refusal)
+checks (inclusion r s) d =
     when (nat_le 128 r) (Range 0)
     ∷ when (nat_le 128 s) (Range 1)
     ∷ when (nat_le 256 (length (role_axioms d.vocabulary.roles))) (Full 256) ∷ []
-rows (transitivity r) d =
+checks (transitivity r) d =
     when (nat_le 128 r) (Range 0)
     ∷ when (nat_le 256 (length (role_axioms d.vocabulary.roles))) (Full 256) ∷ []
-rows (concept t a b) d = concept_rows (count d) t a b ++ when (nat_le (room d.vocabulary.concepts) (count d)) (Full (room d.vocabulary.concepts)) ∷ []
-rows (pair a b) d =
+checks (concept t a b) d = concept_checks (count d) t a b ++ when (nat_le (room d.vocabulary.concepts) (count d)) (Full (room d.vocabulary.concepts)) ∷ []
+checks (pair a b) d =
     when (nat_le (count d) a) (Absent 0)
     ∷ when (nat_le (count d) b) (Absent 1)
     ∷ when (not (pairable d.vocabulary a b)) Unpaired ∷ []
-rows (general c) d =
+checks («axiom» c) d =
     when (nat_le (count d) c) (Absent 0)
     ∷ when (nat_le 256 (length (axioms d.vocabulary))) (Full 256) ∷ []
-rows seal d = []
-rows (line k f) d = draft_rows k d.vocabulary (lines d) (room d.book) f
-rows (claim ms) d =
+checks seal d = []
+checks (line k f) d = draft_checks k d.vocabulary (lines d) (room d.book) f
+checks (claim ms) d =
     with (λ i. Absent (i + 0)) (absent_at (count d) ms)
     ∷ when (nat_le 256 (length (filed d.claims))) (Full 256)
     ∷ with (λ i. Order (i + 0)) (falling_at ms) ∷ []
-rows (close_empty c n) d =
+checks (close_empty c n) d =
     when (nat_le (length (filed d.claims)) c) (Absent 0)
     ∷ when (nat_le (length (lines d)) n) (Absent 1)
     ∷ when (not (is_open (claim_at d.claims c).status)) (Closed c)
     ∷ with Outside (outside (label_of (lines d) n) (claim_at d.claims c).label) ∷ []
-rows (close_inhabited c m old new) d =
+checks (close_inhabited c m old new) d =
     when (nat_lt (length old / 4) (count d)) (Range (4 + (length m.marks.now + length m.edges.now) / 2))
     ∷ when (nat_le (length (filed d.claims)) c) (Absent 0)
     ∷ when (not (is_open (claim_at d.claims c).status)) (Closed c) ∷ []
 
 -- all that speaks against a call: the phase comes first
-abbrev pub all_rows : Call → Docket → List (Option Refusal)
-all_rows c d = when (not (admits d.phase (subject_of c))) Phase ∷ rows c d
+abbrev pub all_checks : Call → Docket → List (Option Refusal)
+all_checks c d = when (not (admits d.phase (subject_of c))) Phase ∷ checks c d
 
 -- the first refusal of a call, if any
 abbrev pub refusal : Call → Docket → Option Refusal
-refusal c d = first (all_rows c d)
+refusal c d = first (all_checks c d)
 
 -- d becomes e as a call is taken that gives the number i
 abbrev pub Done : Call → Docket → ℕ → Docket → Type 0
@@ -106,14 +106,14 @@ Done (inclusion r s) d i e = RolesFiled d.vocabulary e.vocabulary (Inclusion r s
 Done (transitivity r) d i e = RolesFiled d.vocabulary e.vocabulary (Transitivity r) (Some i) × (e.book ≡ d.book) × (e.claims ≡ d.claims)
 Done (concept t a b) d i e = (k : Concept) × Written t a b k × ConceptFiled d.vocabulary e.vocabulary k (Ok i) × (e.book ≡ d.book) × (e.claims ≡ d.claims)
 Done (pair a b) d i e = Paired d.vocabulary e.vocabulary a b true × (i ≡ 0) × (e.book ≡ d.book) × (e.claims ≡ d.claims)
-Done (general c) d i e = AxiomFiled d.vocabulary e.vocabulary c (Some i) × (e.book ≡ d.book) × (e.claims ≡ d.claims)
+Done («axiom» c) d i e = AxiomFiled d.vocabulary e.vocabulary c (Some i) × (e.book ≡ d.book) × (e.claims ≡ d.claims)
 Done seal d i e = (e.vocabulary ≡ d.vocabulary) × (i ≡ 0) × (e.book ≡ d.book) × (e.claims ≡ d.claims)
 Done (line k f) d i e = Pushed cited_lines d.book e.book (line_of k f) (Ok i) × (e.vocabulary ≡ d.vocabulary) × (e.claims ≡ d.claims)
 Done (claim ms) d i e = ClaimFiled d.claims e.claims (row ms) (Some i) × (e.vocabulary ≡ d.vocabulary) × (e.book ≡ d.book)
 Done (close_empty c n) d i e = Settled d.claims e.claims c Empty true × (i ≡ 0) × (e.vocabulary ≡ d.vocabulary) × (e.book ≡ d.book)
 Done (close_inhabited c m old new) d i e = Settled d.claims e.claims c Inhabited true × (i ≡ 0) × (e.vocabulary ≡ d.vocabulary) × (e.book ≡ d.book)
 
--- how a model is judged for a claim, once the rows above are clear: by the meaning of its label, in every vocabulary that is
+-- how a model is judged for a claim, once the checks above are clear: by the meaning of its label, in every vocabulary that is
 -- `Kept`, where the label's concepts stand
 abbrev pub JudgedFor : Docket → ℕ → Model → List ℕ → Result (Unit {0}) Refusal → List ℕ → Type 0
 JudgedFor d c m old r new =
@@ -124,7 +124,7 @@ abbrev pub Clears : Call → Docket → Type 0
 Clears (close_inhabited c m old new) d = (refusal (close_inhabited c m old new) d ≡ None) × JudgedFor d c m old (Ok tt) new
 Clears call d = refusal call d ≡ None
 
--- a call is refused, by its first row; or a model by its judgement
+-- a call is refused, by the first check that refuses; or a model by its judgement
 abbrev pub Refuses : Call → Docket → Refusal → Type 0
 Refuses (close_inhabited c m old new) d x =
     ((refusal (close_inhabited c m old new) d ≡ Some x) × (new ≡ old)) ⊎ ((refusal (close_inhabited c m old new) d ≡ None) × JudgedFor d c m old (Err x) new)

@@ -6,7 +6,7 @@ use Rattle.refusals.specs.Checks.{when, with, first}
 use Rattle.file_bytes.specs.Bytes.{numbers}
 use Rattle.labels.specs.Labels.{Row, row, absent_at, falling_at}
 use Rattle.calculus.specs.Calculi.{Calculus}
-use Rattle.book.specs.Drafts.{principal_rows}
+use Rattle.book.specs.Drafts.{principal_checks}
 use Rattle.docket.specs.declared.Docket.{Docket}
 use Rattle.docket.specs.declared.conclusion.Inquiry.{Inquiry}
 use Rattle.docket.specs.Phases.{is_unsealed}
@@ -20,22 +20,22 @@ abbrev pub asked_label : Inquiry → List ℕ
 asked_label f = row (asked_members f)
 
 -- what is checked first, with memory of so many words
-abbrev pub early_rows : Calculus → Docket → Inquiry → ℕ → List (Option Refusal)
-early_rows k d f words =
+abbrev pub early_checks : Calculus → Docket → Inquiry → ℕ → List (Option Refusal)
+early_checks k d f words =
     when (is_unsealed d.phase) Phase
     ∷ when (not (k.has f.rule)) (Range 0)
     ∷ when (nat_le (k.cites f.rule) f.index) (Range 4)
     ∷ when (nat_lt words 16) (Range (5 + length f.members.now / 2))
-    ∷ principal_rows (count d) f.on
+    ∷ principal_checks (count d) f.on
 
 abbrev pub Inquired : Calculus → Docket → Inquiry → ℕ → Result ℕ Refusal → Type 0
-Inquired k d f words (Ok i) = (first (early_rows k d f words) ≡ None) × (i ≡ f.index) × (16 ≤ words)
-Inquired k d f words (Err x) = first (early_rows k d f words) ≡ Some x
+Inquired k d f words (Ok i) = (first (early_checks k d f words) ≡ None) × (i ≡ f.index) × (16 ≤ words)
+Inquired k d f words (Err x) = first (early_checks k d f words) ≡ Some x
 
 -- all that is checked, in this order
-abbrev pub conclusion_rows : Calculus → Docket → Inquiry → ℕ → List (Option Refusal)
-conclusion_rows k d f words =
-    early_rows k d f words
+abbrev pub conclusion_checks : Calculus → Docket → Inquiry → ℕ → List (Option Refusal)
+conclusion_checks k d f words =
+    early_checks k d f words
     ++ (with (λ i. Absent (i + 5)) (absent_at (count d) (asked_members f))
     ∷ with (λ i. Order (i + 5)) (falling_at (asked_members f))
     ∷ when (not (k.applies f.rule d.vocabulary f.on (asked_label f))) (Inapplicable f.rule) ∷ [])
@@ -43,6 +43,6 @@ conclusion_rows k d f words =
 -- The memory becomes what the answer says: in its first sixteen words the bit of a concept is set exactly if it is in the
 -- conclusion, and later words are as they were. A refusal leaves all of it as it was.
 abbrev pub Concluded : Calculus → Docket → Inquiry → List ℕ → Result (Unit {0}) Refusal → List ℕ → Type 0
-Concluded k d f old (Ok u) new = (first (conclusion_rows k d f (length old)) ≡ None)
+Concluded k d f old (Ok u) new = (first (conclusion_checks k d f (length old)) ≡ None)
     × Row (take 16 new) (k.concludes f.rule d.vocabulary f.on (asked_label f) f.index) × (drop 16 new ≡ drop 16 old)
-Concluded k d f old (Err x) new = (first (conclusion_rows k d f (length old)) ≡ Some x) × (new ≡ old)
+Concluded k d f old (Err x) new = (first (conclusion_checks k d f (length old)) ≡ Some x) × (new ≡ old)

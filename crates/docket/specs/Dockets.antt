@@ -33,17 +33,17 @@ pub record Fresh (d : Docket) : Type 0 where
   pub line_room : (1 ≤ room d.book) × (room d.book ≤ 4096)
 
 -- what opening checks, in this order: the capacities n and m, and then memory for a concepts and b lines
-abbrev pub opening_rows : ℕ → ℕ → ℕ → ℕ → List (Option Refusal)
-opening_rows n m a b =
+abbrev pub opening_checks : ℕ → ℕ → ℕ → ℕ → List (Option Refusal)
+opening_checks n m a b =
     when (nat_lt n 1 || nat_lt 1024 n) (Range 0)
     ∷ when (nat_lt m 1 || nat_lt 4096 m) (Range 1)
     ∷ when (nat_lt a n || nat_lt b m) (Range 2) ∷ []
 
 -- opening gives a new docket of these capacities over the host's memory, or refuses and hands the memory back as it was
 abbrev pub Opened : ℕ → ℕ → MutBor (List Concept) → MutBor (List Line) → Result Docket Unopened → Type 0
-Opened n m cs ls (Ok d) = (first (opening_rows n m (length cs.now) (length ls.now)) ≡ None) × Fresh d
+Opened n m cs ls (Ok d) = (first (opening_checks n m (length cs.now) (length ls.now)) ≡ None) × Fresh d
     × (room d.vocabulary.concepts ≡ n) × (room d.book ≡ m) × (d.vocabulary.concepts.slots ≡ cs) × (d.book.slots ≡ ls)
-Opened n m cs ls (Err u) = (first (opening_rows n m (length cs.now) (length ls.now)) ≡ Some u.refusal) × (u.concepts ≡ cs) × (u.lines ≡ ls)
+Opened n m cs ls (Err u) = (first (opening_checks n m (length cs.now) (length ls.now)) ≡ Some u.refusal) × (u.concepts ≡ cs) × (u.lines ≡ ls)
 
 -- d after a call that its phase admits
 abbrev pub entered : Docket → Subject → Docket

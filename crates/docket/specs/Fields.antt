@@ -28,8 +28,8 @@ part_absent Part count n = nat_le count n
 part_absent other count n = false
 
 -- what reading a concept checks, in this order
-abbrev pub concept_rows : ℕ → ℕ → ℕ → ℕ → List (Option Refusal)
-concept_rows count t a b =
+abbrev pub concept_checks : ℕ → ℕ → ℕ → ℕ → List (Option Refusal)
+concept_checks count t a b =
     when (nat_lt 7 t) (Range 0)
     ∷ when (out_of_range (use_of_first t) a) (Range 1)
     ∷ when (out_of_range (use_of_second t) b) (Range 2)
@@ -42,7 +42,7 @@ pub record Written (t a b : ℕ) (k : Concept) : Type 0 where
   pub has_first : first_number k ≡ a
   pub has_second : second_number k ≡ b
 
--- the concept that is written, or the first row that refuses
+-- the concept that is written, or the first check that refuses
 abbrev pub Read : ℕ → ℕ → ℕ → ℕ → Result Concept Refusal → Type 0
-Read count t a b (Ok k) = (first (concept_rows count t a b) ≡ None) × Written t a b k
-Read count t a b (Err f) = first (concept_rows count t a b) ≡ Some f
+Read count t a b (Ok k) = (first (concept_checks count t a b) ≡ None) × Written t a b k
+Read count t a b (Err f) = first (concept_checks count t a b) ≡ Some f

@@ -22,26 +22,26 @@ use Rattle.docket.specs.Dockets.{count}
 abbrev pub roles : Docket → List RoleAxiom
 roles d = role_axioms d.vocabulary.roles
 
--- an answer is right if it is what R says; a refusal is the first of the rows
+-- an answer is right if it is what R says; a refusal is of the first check that refuses
 abbrev pub Answered : {A : Type 0} → List (Option Refusal) → (A → Type 0) → Result A Refusal → Type 0
-Answered rows R (Ok x) = (first rows ≡ None) × R x
-Answered rows R (Err f) = first rows ≡ Some f
+Answered checks R (Ok x) = (first checks ≡ None) × R x
+Answered checks R (Err f) = first checks ≡ Some f
 
-abbrev pub sealed_rows : Docket → List (Option Refusal)
-sealed_rows d = when (is_unsealed d.phase) Phase ∷ []
+abbrev pub sealed_checks : Docket → List (Option Refusal)
+sealed_checks d = when (is_unsealed d.phase) Phase ∷ []
 
-abbrev pub below_rows : Docket → ℕ → ℕ → List (Option Refusal)
-below_rows d r s = when (is_unsealed d.phase) Phase ∷ when (nat_le 128 r) (Range 0) ∷ when (nat_le 128 s) (Range 1) ∷ []
+abbrev pub below_checks : Docket → ℕ → ℕ → List (Option Refusal)
+below_checks d r s = when (is_unsealed d.phase) Phase ∷ when (nat_le 128 r) (Range 0) ∷ when (nat_le 128 s) (Range 1) ∷ []
 
-abbrev pub transitive_rows : Docket → ℕ → List (Option Refusal)
-transitive_rows d r = when (is_unsealed d.phase) Phase ∷ when (nat_le 128 r) (Range 0) ∷ []
+abbrev pub transitive_checks : Docket → ℕ → List (Option Refusal)
+transitive_checks d r = when (is_unsealed d.phase) Phase ∷ when (nat_le 128 r) (Range 0) ∷ []
 
-abbrev pub mate_rows : Docket → ℕ → List (Option Refusal)
-mate_rows d c = when (nat_le (count d) c) (Absent 0) ∷ []
+abbrev pub mate_checks : Docket → ℕ → List (Option Refusal)
+mate_checks d c = when (nat_le (count d) c) (Absent 0) ∷ []
 
 -- a label alone, with these members
-abbrev pub label_rows : Docket → List ℕ → List (Option Refusal)
-label_rows d ms = with (λ i. Absent (i + 0)) (absent_at (count d) ms) ∷ with (λ i. Order (i + 0)) (falling_at ms) ∷ []
+abbrev pub label_checks : Docket → List ℕ → List (Option Refusal)
+label_checks d ms = with (λ i. Absent (i + 0)) (absent_at (count d) ms) ∷ with (λ i. Order (i + 0)) (falling_at ms) ∷ []
 
 -- yes exactly if r is below s; and then every interpretation that meets the role axioms has the pairs of r among those of s
 pub record SaysBelow (d : Docket) (r s : ℕ) (b : Bool) : Type 0 where

@@ -1,4 +1,4 @@
-ghost use Rattle.docket.specs.Calls.{Acts, inclusion, transitivity, concept, pair, general, seal, line};
+ghost use Rattle.docket.specs.Calls.{Acts, inclusion, transitivity, concept, pair, «axiom», seal, line};
 ghost use Rattle.docket.specs.Questions.{PairingIsRight, MeansTheSame};
 ghost use Rattle.docket.specs.Runs.{Reached};
 
@@ -66,7 +66,7 @@ impl Docket<'_> {
 
     /// Files a concept as one that holds of every element.
     pub fn file_axiom(&mut self, c: u16) -> Answer
-        ensures { Acts (general c) self.old result self.new }
+        ensures { Acts («axiom» c) self.old result self.new }
     {
         self.enter(Subject::Axiom)?;
         check_stands(c, self.vocabulary.len(), 0)?;

@@ -9,7 +9,7 @@ pub mod questions;
 mod tag;
 
 ghost use Rattle.refusals.specs.Checks.{Passed};
-ghost use Rattle.docket.specs.Dockets.{opening_rows, Opened};
+ghost use Rattle.docket.specs.Dockets.{opening_checks, Opened};
 
 use crate::phase::Phase;
 use book::line::Line;
@@ -49,7 +49,7 @@ fn check_opening(
     concepts: usize,
     lines: usize,
 ) -> Result<(), Refusal>
-    ensures { Passed (opening_rows concept_capacity line_capacity concepts lines) result }
+    ensures { Passed (opening_checks concept_capacity line_capacity concepts lines) result }
 {
     if concept_capacity < 1 || concept_capacity > MOST_CONCEPTS {
         return Err(Refusal::Range(0));

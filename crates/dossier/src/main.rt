@@ -1,7 +1,8 @@
 #![tactic(auto)]
 
 use book::line::Line;
-use console::run::{Memory, run};
+use console::answer::Memory;
+use console::run::run;
 use intake::Reply;
 use logic::concept::Concept;
 use std::io;

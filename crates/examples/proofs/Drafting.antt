@@ -9,8 +9,8 @@ use Rattle.labels.specs.Labels.{row}
 use Rattle.bits.specs.Below.{some_below}
 use Rattle.schemas.specs.House.{house}
 use Rattle.book.specs.declared.filing.Draft.{Draft}
-use Rattle.book.specs.Drafts.{draft_rows, Admitted}
-use Rattle.book.proofs.Admitting.{rows_are_right}
+use Rattle.book.specs.Drafts.{draft_checks, Admitted}
+use Rattle.book.proofs.Admitting.{checks_are_right}
 use Rattle.docket.specs.declared.Docket.{Docket}
 use Rattle.docket.specs.Dockets.{lines}
 use Rattle.examples.specs.Cases.{AllHold}
@@ -18,11 +18,11 @@ use Rattle.examples.specs.SmallDocket.{clash, other_clash, neighbour, cut_with}
 use Rattle.examples.specs.RunCases.{sealed, with_first, at_last, draft_cases}
 
 module _ (d : Docket) (f : Draft) where
-  admitted : first (draft_rows house d.vocabulary (lines d) (room d.book) f) ≡ None → Admitted house d.vocabulary (lines d) (room d.book) f
-  admitted h = (rows_are_right house d.vocabulary (lines d) (room d.book) f).0 h
+  admitted : first (draft_checks house d.vocabulary (lines d) (room d.book) f) ≡ None → Admitted house d.vocabulary (lines d) (room d.book) f
+  admitted h = (checks_are_right house d.vocabulary (lines d) (room d.book) f).0 h
 
-  refused : (x : Refusal) → first (draft_rows house d.vocabulary (lines d) (room d.book) f) ≡ Some x → Admitted house d.vocabulary (lines d) (room d.book) f → ⊥
-  refused x h a = let e = (rows_are_right house d.vocabulary (lines d) (room d.book) f).1 a in let z : ◌≡◌ {A = ℕ} 0 1 = cc in omega arith
+  refused : (x : Refusal) → first (draft_checks house d.vocabulary (lines d) (room d.book) f) ≡ Some x → Admitted house d.vocabulary (lines d) (room d.book) f → ⊥
+  refused x h a = let e = (checks_are_right house d.vocabulary (lines d) (room d.book) f).1 a in let z : ◌≡◌ {A = ℕ} 0 1 = cc in omega arith
 
 pub drafts_hold : AllHold draft_cases
 unfolding least row some_below

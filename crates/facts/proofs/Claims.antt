@@ -32,7 +32,7 @@ use Rattle.docket.specs.declared.phase.Phase.{Phase}
 use Rattle.docket.specs.declared.phase.Phase.TheVariants.{Open, Sealed}
 use Rattle.docket.specs.Phases.{is_unsealed, admits}
 use Rattle.docket.specs.Dockets.{count, lines}
-use Rattle.docket.specs.Calls.{Call, inclusion, transitivity, concept, pair, general, seal, line, claim, close_empty, close_inhabited, subject_of, all_rows, refusal, Acts}
+use Rattle.docket.specs.Calls.{Call, inclusion, transitivity, concept, pair, «axiom», seal, line, claim, close_empty, close_inhabited, subject_of, all_checks, refusal, Acts}
 use Rattle.docket.specs.Runs.{Reached, began, called}
 use Rattle.docket.proofs.Reaching.{reached_kept}
 use Rattle.facts.specs.Lines.{Empty}
@@ -129,7 +129,7 @@ unopened : (p : Phase) → not (is_unsealed p) ≡ true → p ≡ Open → ⊥
 unopened p h e = let k = ap (λ q. not (is_unsealed q)) e in let z : ◌≡◌ {A = ℕ} 0 1 = cc in omega arith
 
 admitted : (c : Call) (d : Docket) → refusal c d ≡ None → admits d.phase (subject_of c) ≡ true
-admitted c d h = not-false (admits d.phase (subject_of c)) (when_none (not (admits d.phase (subject_of c))) WrongPhase (clear (all_rows c d) h).0)
+admitted c d h = not-false (admits d.phase (subject_of c)) (when_none (not (admits d.phase (subject_of c))) WrongPhase (clear (all_checks c d) h).0)
 
 with_none : (f : ℕ → Refusal) (o : Option ℕ) → with f o ≡ None → o ≡ None
 with_none f None h = refl
@@ -144,7 +144,7 @@ settled d c s shown l e w = all_set (Shown d.vocabulary) (filed d.claims) c _ sh
 -- the line that closes a claim
 line_empties : (d : Docket) (c n : ℕ) → Kept d.vocabulary → Invariant d → refusal (close_empty c n) d ≡ None → Empty d.vocabulary (has (claim_at d.claims c).label)
 line_empties d c n kept s h I meets i =
-    let r = clear (all_rows (close_empty c n) d) h in
+    let r = clear (all_checks (close_empty c n) d) h in
     let stands = leb-false (length (lines d)) n (when_none (leb (length (lines d)) n) (Absent 1) r.1.1.0) in
     let none = with_none Outside (outside (label_of (lines d) n) (claim_at d.claims c).label) r.1.1.1.1.0 in
     let few = kept.concepts_kept.few in
@@ -169,12 +169,12 @@ acts_shown (concept t a b) d e (Ok i) kept lines_kept h s =
 acts_shown (pair a b) d e (Ok i) kept lines_kept h s =
     let p = h.1.0 in
     same_claims d e (λ o. sym h.2 ∙ o) h.1.3 (shown_stays d.vocabulary e.vocabulary kept [] (none_more d.vocabulary e.vocabulary p.3) p.2 p.4) s
-acts_shown (general c) d e (Ok i) kept lines_kept h s = no_claim e (ap filed h.1.2 ∙ s.none_yet (opened d.phase (admitted (general c) d h.0)))
+acts_shown («axiom» c) d e (Ok i) kept lines_kept h s = no_claim e (ap filed h.1.2 ∙ s.none_yet (opened d.phase (admitted («axiom» c) d h.0)))
 acts_shown seal d e (Ok i) kept lines_kept h s =
     same_claims d e (λ o. opened d.phase (admitted seal d h.0)) h.1.3 (λ x. subst (λ (v : Vocabulary). Shown v x) (sym h.1.0)) s
 acts_shown (line k f) d e (Ok i) kept lines_kept h s = same_claims d e (λ o. sym h.2 ∙ o) h.1.2 (λ x. subst (λ (v : Vocabulary). Shown v x) (sym h.1.1)) s
 acts_shown (claim ms) d e (Ok i) kept lines_kept h s =
-    let none = with_none _ (absent_at (count d) ms) (clear (all_rows (claim ms) d) h.0).1.0 in
+    let none = with_none _ (absent_at (count d) ms) (clear (all_checks (claim ms) d) h.0).1.0 in
     sealed_claims d e (unopened d.phase (admitted (claim ms) d h.0)) h.2 h.1.1 _ h.1.0.2
     (all_push (Shown d.vocabulary) (filed d.claims) (record { label = row ms; status = Unsettled }) s.all_shown (record {
       stands = λ c m. none_absent (count d) ms none c (in_row ms c m);
@@ -209,7 +209,7 @@ inhabited_claims_have_no_line d p c l inhabited k m within =
 -- a claim that a model is judged for stands
 judged_for : (d : Docket) (c : ℕ) (m : Model) (old new : List ℕ) → refusal (close_inhabited c m old new) d ≡ None → c < length (filed d.claims)
 judged_for d c m old new h =
-    let r = clear (all_rows (close_inhabited c m old new) d) h in
+    let r = clear (all_checks (close_inhabited c m old new) d) h in
     leb-false (length (filed d.claims)) c (when_none (leb (length (filed d.claims)) c) (Absent 0) r.1.1.0)
 
 models_are_judged : ModelsAreJudged

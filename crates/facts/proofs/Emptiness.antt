@@ -19,7 +19,7 @@ use Rattle.book.specs.Drafts.{members, label, line_of, Admitted}
 use Rattle.book.proofs.Admitting.{admitted}
 use Rattle.docket.specs.declared.Docket.{Docket}
 use Rattle.docket.specs.Dockets.{Fresh, count, lines}
-use Rattle.docket.specs.Calls.{Call, inclusion, transitivity, concept, pair, general, seal, line, claim, close_empty, close_inhabited, all_rows, rows, Acts}
+use Rattle.docket.specs.Calls.{Call, inclusion, transitivity, concept, pair, «axiom», seal, line, claim, close_empty, close_inhabited, all_checks, checks, Acts}
 use Rattle.docket.specs.Runs.{Lent, Reached, began, called}
 use Rattle.docket.proofs.Reaching.{reached_kept}
 use Rattle.facts.specs.Lines.{Empty, LinesAreEmpty}
@@ -84,10 +84,10 @@ acts_invariant (inclusion r t) d e (Ok i) lent kept h s = grown_invariant d e ke
 acts_invariant (transitivity r) d e (Ok i) lent kept h s = grown_invariant d e kept (grown_role_axiom d.vocabulary e.vocabulary _ i h.1.0) h.1.1 s
 acts_invariant (concept t a b) d e (Ok i) lent kept h s = grown_invariant d e kept (grown_concept d.vocabulary e.vocabulary h.1.0 i h.1.2) h.1.3 s
 acts_invariant (pair a b) d e (Ok i) lent kept h s = grown_invariant d e kept (grown_pair d.vocabulary e.vocabulary a b h.1.0) h.1.2 s
-acts_invariant (general c) d e (Ok i) lent kept h s = grown_invariant d e kept (grown_axiom d.vocabulary e.vocabulary c i h.1.0) h.1.1 s
+acts_invariant («axiom» c) d e (Ok i) lent kept h s = grown_invariant d e kept (grown_axiom d.vocabulary e.vocabulary c i h.1.0) h.1.1 s
 acts_invariant seal d e (Ok i) lent kept h s = grown_invariant d e kept (grown_same d.vocabulary e.vocabulary h.1.0) h.1.2 s
 acts_invariant (line k f) d e (Ok i) lent kept h s =
-    let r = cleared (rows (line k f) d) (clear (all_rows (line k f) d) h.0).1 in
+    let r = cleared (checks (line k f) d) (clear (all_checks (line k f) d) h.0).1 in
     line_invariant k lent f d kept s (admitted k d.vocabulary (lines d) (room d.book) f r) e h.1.0.3 h.1.1
 acts_invariant (claim ms) d e (Ok i) lent kept h s = grown_invariant d e kept (grown_same d.vocabulary e.vocabulary h.1.1) h.1.2 s
 acts_invariant (close_empty c n) d e (Ok i) lent kept h s = grown_invariant d e kept (grown_same d.vocabulary e.vocabulary h.1.2) h.1.3 s

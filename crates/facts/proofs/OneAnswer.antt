@@ -10,14 +10,14 @@ use Rattle.models.specs.Judging.{LabelStands}
 use Rattle.claims.specs.Claiming.{filed, claim_at}
 use Rattle.docket.specs.declared.Docket.{Docket}
 use Rattle.docket.specs.Dockets.{count, lines}
-use Rattle.docket.specs.Calls.{Call, inclusion, transitivity, concept, pair, general, seal, line, claim, close_empty, close_inhabited, all_rows, refusal, JudgedFor, Refuses, Acts}
+use Rattle.docket.specs.Calls.{Call, inclusion, transitivity, concept, pair, «axiom», seal, line, claim, close_empty, close_inhabited, all_checks, refusal, JudgedFor, Refuses, Acts}
 use Rattle.docket.specs.Runs.{Reached}
 use Rattle.docket.proofs.Reaching.{reached_kept}
 use Rattle.facts.specs.Answers.{the_same, the_same_model, CallsHaveOneAnswer}
 use Rattle.facts.proofs.Claims.{claim_labels_stand}
 use Rattle.facts.proofs.OneJudgement.{outcome, one_outcome}
 
--- an answer by rows alone: the number n, or the first refusal o
+-- an answer by checks alone: the number n, or the first refusal o
 abbrev Says : Option Refusal → ℕ → Result ℕ Refusal → Type 0
 Says o n (Ok i) = (o ≡ None) × (i ≡ n)
 Says o n (Err x) = o ≡ Some x
@@ -34,25 +34,25 @@ number (inclusion r s) d = length (role_axioms d.vocabulary.roles)
 number (transitivity r) d = length (role_axioms d.vocabulary.roles)
 number (concept t a b) d = count d
 number (pair a b) d = 0
-number (general c) d = length (axioms d.vocabulary)
+number («axiom» c) d = length (axioms d.vocabulary)
 number seal d = 0
 number (line k f) d = length (lines d)
 number (claim ms) d = length (filed d.claims)
 number (close_empty c n) d = 0
 number (close_inhabited c m old new) d = 0
 
--- what is answered by rows alone
-abbrev ByRows : Call → Type 0
-ByRows (close_inhabited c m old new) = ⊥
-ByRows c = Unit {0}
+-- what is answered by checks alone
+abbrev ByChecks : Call → Type 0
+ByChecks (close_inhabited c m old new) = ⊥
+ByChecks c = Unit {0}
 
 module _ (d : Docket) where
-  says : (c : Call) → ByRows c → (a : Result ℕ Refusal) (e : Docket) → Acts c d a e → Says (refusal c d) (number c d) a
+  says : (c : Call) → ByChecks c → (a : Result ℕ Refusal) (e : Docket) → Acts c d a e → Says (refusal c d) (number c d) a
   says (inclusion r s) u (Ok i) e h = (h.0, h.1.0.0.0.0)
   says (transitivity r) u (Ok i) e h = (h.0, h.1.0.0.0.0)
   says (concept t a b) u (Ok i) e h = (h.0, h.1.2.0.0)
   says (pair a b) u (Ok i) e h = (h.0, h.1.1)
-  says (general c) u (Ok i) e h = (h.0, h.1.0.0.0.0)
+  says («axiom» c) u (Ok i) e h = (h.0, h.1.0.0.0.0)
   says seal u (Ok i) e h = (h.0, h.1.1)
   says (line k f) u (Ok i) e h = (h.0, h.1.0.0)
   says (claim ms) u (Ok i) e h = (h.0, h.1.0.0)
@@ -60,16 +60,16 @@ module _ (d : Docket) where
   says (close_inhabited c m old new) u a e h = absurd u
   says c u (Err x) e h = h.0
 
-  by_rows : (c : Call) → ByRows c → (a b : Result ℕ Refusal) (e f : Docket) → Acts c d a e → Acts c d b f → a ≡ b
-  by_rows c u a b e f p q = one_said (refusal c d) (number c d) a b (says c u a e p) (says c u b f q)
+  by_checks : (c : Call) → ByChecks c → (a b : Result ℕ Refusal) (e f : Docket) → Acts c d a e → Acts c d b f → a ≡ b
+  by_checks c u a b e f p q = one_said (refusal c d) (number c d) a b (says c u a e p) (says c u b f q)
 
   module _ (reached : Reached d) where
-    -- a model that no row speaks against is judged in one way
+    -- a model that no check speaks against is judged in one way
     module _ (k : ℕ) (m : Model) (old : List ℕ) where
       label_stands : (new : List ℕ) → refusal (close_inhabited k m old new) d ≡ None → LabelStands (concepts d.vocabulary) (claim_at d.claims k).label
       label_stands new h =
           claim_labels_stand d reached k
-          (leb-false (length (filed d.claims)) k (when_none (leb (length (filed d.claims)) k) _ (clear (all_rows (close_inhabited k m old new) d) h).1.1.0))
+          (leb-false (length (filed d.claims)) k (when_none (leb (length (filed d.claims)) k) _ (clear (all_checks (close_inhabited k m old new) d) h).1.1.0))
 
       one_judged : (new other : List ℕ) (r s : Result (Unit {0}) Refusal) → refusal (close_inhabited k m old new) d ≡ None
           → JudgedFor d k m old r new → JudgedFor d k m old s other → r ≡ s
@@ -104,7 +104,7 @@ module _ (d : Docket) where
 
     one_answer : (c : Call) (a b : Result ℕ Refusal) (e f : Docket) → Acts c d a e → Acts c d b f → a ≡ b
     one_answer (close_inhabited k m old new) a b e f p q = by_model k m old new new a b e f p q
-    one_answer c a b e f p q = by_rows c tt a b e f p q
+    one_answer c a b e f p q = by_checks c tt a b e f p q
 
 pub calls_have_one_answer : CallsHaveOneAnswer
 calls_have_one_answer d reached c c' the_same a b e f p q = one_answer d reached c a b e f p q

@@ -15,7 +15,7 @@ use Rattle.book.specs.Drafts.{line_of}
 use Rattle.docket.specs.declared.Docket.{Docket}
 use Rattle.docket.specs.declared.phase.Phase.TheVariants.{Sealed}
 use Rattle.docket.specs.Dockets.{lines}
-use Rattle.docket.specs.Calls.{Call, inclusion, transitivity, concept, pair, general, seal, line, claim, close_empty, close_inhabited, Acts}
+use Rattle.docket.specs.Calls.{Call, inclusion, transitivity, concept, pair, «axiom», seal, line, claim, close_empty, close_inhabited, Acts}
 use Rattle.facts.specs.Events.{Event, Ran, Each, NothingFiled}
 use Rattle.facts.specs.Trees.{Node, Tree, leaf, one, two, root, Applied, Carries, Closed}
 use Rattle.facts.specs.Proper.{Proper}
@@ -29,7 +29,7 @@ Steady (inclusion r s) (Ok i) = ⊥
 Steady (transitivity r) (Ok i) = ⊥
 Steady (concept t a b) (Ok i) = ⊥
 Steady (pair a b) (Ok i) = Unit {0}
-Steady (general c) (Ok i) = ⊥
+Steady («axiom» c) (Ok i) = ⊥
 Steady seal (Ok i) = Unit {0}
 Steady (line k f) (Ok i) = Unit {0}
 Steady (claim ms) (Ok i) = ⊥
@@ -46,7 +46,7 @@ taken (inclusion r s) (Ok i) = 0
 taken (transitivity r) (Ok i) = 0
 taken (concept t a b) (Ok i) = 0
 taken (pair a b) (Ok i) = 0
-taken (general c) (Ok i) = 0
+taken («axiom» c) (Ok i) = 0
 taken seal (Ok i) = 0
 taken (line k f) (Ok i) = 1
 taken (claim ms) (Ok i) = 0
@@ -62,7 +62,7 @@ at_most_one (inclusion r s) (Ok i) = omega arith
 at_most_one (transitivity r) (Ok i) = omega arith
 at_most_one (concept t a b) (Ok i) = omega arith
 at_most_one (pair a b) (Ok i) = omega arith
-at_most_one (general c) (Ok i) = omega arith
+at_most_one («axiom» c) (Ok i) = omega arith
 at_most_one seal (Ok i) = omega arith
 at_most_one (line k f) (Ok i) = omega arith
 at_most_one (claim ms) (Ok i) = omega arith
@@ -82,8 +82,8 @@ nothing_steady (transitivity r) (Ok i) (inr h) = absurd h
 nothing_steady (concept t a b) (Ok i) (inl h) = absurd h
 nothing_steady (concept t a b) (Ok i) (inr h) = absurd h
 nothing_steady (pair a b) (Ok i) h = (tt, refl)
-nothing_steady (general c) (Ok i) (inl h) = absurd h
-nothing_steady (general c) (Ok i) (inr h) = absurd h
+nothing_steady («axiom» c) (Ok i) (inl h) = absurd h
+nothing_steady («axiom» c) (Ok i) (inr h) = absurd h
 nothing_steady seal (Ok i) h = (tt, refl)
 nothing_steady (line k f) (Ok i) (inl h) = absurd h
 nothing_steady (line k f) (Ok i) (inr h) = absurd h
@@ -169,7 +169,7 @@ module _ (k : Calculus) (proper : Proper k) where
       later_book d e
       (record { kept = kept_pair d.vocabulary e.vocabulary x y h.1.0 g.kept; sealed = h.2 ∙ g.sealed })
       (closed_pair d.vocabulary e.vocabulary x y g.kept h.1.0) h.1.2
-  acts_later (general x) (Ok i) d e s g h = absurd s
+  acts_later («axiom» x) (Ok i) d e s g h = absurd s
   acts_later seal (Ok i) d e s g h = later_same d e g.kept h.2 h.1.0 h.1.2
   acts_later (line j f) (Ok i) d e s g h = record {
     good = record { kept = subst Kept (sym h.1.1) g.kept; sealed = h.2 ∙ g.sealed };

@@ -13,13 +13,13 @@ use Rattle.book.specs.declared.filing.Draft.{Draft}
 use Rattle.book.specs.declared.line.Line.{Line}
 use Rattle.book.specs.Lines.{blank_line, label_of}
 use Rattle.book.specs.Drafts.{members, label, line_of, conclusion, Admitted}
-use Rattle.book.proofs.Admitting.{no_row}
+use Rattle.book.proofs.Admitting.{no_check}
 use Rattle.docket.specs.declared.Docket.{Docket}
 use Rattle.docket.specs.declared.phase.Phase.{Phase as DocketPhase}
 use Rattle.docket.specs.declared.phase.Subject.TheVariants.{Line as LineSubject}
 use Rattle.docket.specs.Phases.{admits}
 use Rattle.docket.specs.Dockets.{lines}
-use Rattle.docket.specs.Calls.{line, all_rows, rows, refusal, Acts}
+use Rattle.docket.specs.Calls.{line, all_checks, checks, refusal, Acts}
 use Rattle.docket.proofs.Reaching.{reached_kept}
 use Rattle.facts.specs.Events.{Event, Ran, Each, Interleaved}
 use Rattle.facts.specs.Trees.{Tree, leaf, one, two, root, nodes, Applied, Carries, Closed}
@@ -101,9 +101,9 @@ module _ (k : Calculus) (law : LawfulCalculus k) (proper : Proper k) where
 
   -- an admitted draft is taken
   admitted_refusal : (d : Docket) (f : Draft) → Good d → Admitted k d.vocabulary (lines d) (room d.book) f → refusal (line k f) d ≡ None
-  admitted_refusal d f good a = cleared (all_rows (line k f) d) (
+  admitted_refusal d f good a = cleared (all_checks (line k f) d) (
     none_when (not (admits d.phase LineSubject)) Phase (ap (λ (p : DocketPhase). not (admits p LineSubject)) good.sealed),
-    clear (rows (line k f) d) (no_row k d.vocabulary (lines d) (room d.book) f a),
+    clear (checks (line k f) d) (no_check k d.vocabulary (lines d) (room d.book) f a),
   )
 
   admitted_taken : (a : Result ℕ Refusal) (d e : Docket) (f : Draft) → refusal (line k f) d ≡ None → Acts (line k f) d a e

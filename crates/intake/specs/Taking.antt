@@ -5,7 +5,7 @@ use Rattle.refusals.specs.declared.Refusal.TheVariants.{Range}
 use Rattle.file_bytes.specs.Bytes.{field, numbers}
 use Rattle.calculus.specs.Calculi.{Calculus}
 use Rattle.docket.specs.declared.Docket.{Docket}
-use Rattle.docket.specs.Calls.{Call, inclusion, transitivity, concept, pair, general, seal, line, claim, close_empty, close_inhabited, Acts}
+use Rattle.docket.specs.Calls.{Call, inclusion, transitivity, concept, pair, «axiom», seal, line, claim, close_empty, close_inhabited, Acts}
 use Rattle.records.specs.declared.record.Record.{Record}
 use Rattle.records.specs.declared.record.Record.TheVariants.{Inclusion, Transitivity, Concept, Pair, Axiom, Seal, Line, Claim, CloseEmpty, CloseInhabited}
 use Rattle.records.specs.declared.record.Frame.{Frame}
@@ -19,7 +19,7 @@ call_of k old new (Inclusion body) = inclusion (field body.now 0) (field body.no
 call_of k old new (Transitivity body) = transitivity (field body.now 0)
 call_of k old new (Concept body) = concept (field body.now 0) (field body.now 1) (field body.now 2)
 call_of k old new (Pair body) = pair (field body.now 0) (field body.now 1)
-call_of k old new (Axiom body) = general (field body.now 0)
+call_of k old new (Axiom body) = «axiom» (field body.now 0)
 call_of k old new Seal = seal
 call_of k old new (Line body members) = line k (record {
   rule = field body.now 0;

@@ -7,7 +7,8 @@ mod pairs;
 mod role_axioms;
 mod verdict;
 
-ghost use Rattle.std.specs.Prelude.{◌*◌, ◌≤◌, length};
+ghost use Rattle.std.specs.Prelude.{◌≡◌, ◌*◌, ◌<◌, ◌≤◌, length, Err};
+ghost use Rattle.refusals.specs.declared.Refusal.TheVariants.{Range};
 ghost use Rattle.vocabulary.specs.Vocabularies.{concepts};
 ghost use Rattle.vocabulary.specs.Keeping.{Kept};
 ghost use Rattle.models.specs.Judging.{LabelStands, Judged};
@@ -32,25 +33,26 @@ pub struct Model<'f> {
 
 /// Whether a model is well formed, meets the vocabulary's role axioms and its axioms, and has its point in every concept
 /// of a label, which is a row of bits. The first of these that fails is the answer. The rows are working memory: four
-/// words for each concept, in which the elements of the concept are left.
+/// words for each concept, in which the elements of the concept are left; memory that is too short for them is refused first.
 pub fn judge(
     vocabulary: &Vocabulary,
     label: &[u64; 16],
     model: &Model,
     rows: &mut [u64],
 ) -> Result<(), Refusal>
+    ensures too_short { length rows.old < 4 * length (concepts vocabulary.now) → (result ≡ Err (Range 0)) × (rows.new ≡ rows.old) }
     ensures judged { Kept vocabulary.now → 4 * length (concepts vocabulary.now) ≤ length rows.old → LabelStands (concepts vocabulary.now) label.now → Judged vocabulary.now label.now model.now rows.old result rows.new }
 {
+    let concepts = vocabulary.concepts();
+    let count = concepts.len();
+    // so that a call is safe whatever it is given
+    if rows.len() / 4 < count {
+        return Err(Refusal::Range(0));
+    }
     let formed = Formed::new(model).map_err(Refusal::Model)?;
     // Each search finds what is refused: its `Some` is the error, and `map_or(Ok(()), ..)?` is no plainer.
     if let Some(i) = formed.first_broken(vocabulary.role_axioms()) {
         return Err(Refusal::RoleAxiom(i));
-    }
-    let concepts = vocabulary.concepts();
-    let count = concepts.len();
-    // Memory that is too short for the rows is refused too, so that a call is safe whatever it is given.
-    if rows.len() / 4 < count {
-        return Err(Refusal::Range(0));
     }
     formed.evaluate(rows, concepts);
     let Model { size, point, .. } = *formed.model;

@@ -1,4 +1,4 @@
--- A call checks row by row, in the order of its table, and returns the first refusal that it meets.
+-- A call checks one thing after another, in the order of its table, and returns the first refusal that it meets.
 use Rattle.std.specs.Prelude.{◌≡◌, Bool, true, false, List, [], ◌∷◌, Some, None, Ok, Err, Option, Result}
 
 -- x, if the test is met
@@ -11,7 +11,7 @@ abbrev pub otherwise : {A : Type 0} → Option A → Option A → Option A
 otherwise (Some x) y = Some x
 otherwise None y = y
 
--- the first of the rows that refuses
+-- the first of the checks that refuses
 abbrev pub first : {A : Type 0} → List (Option A) → Option A
 first [] = None
 first (x ∷ xs) = otherwise x (first xs)
@@ -21,7 +21,7 @@ abbrev pub with : {A B : Type 0} → (A → B) → Option A → Option B
 with f None = None
 with f (Some x) = Some (f x)
 
--- a check is passed if no row refuses; else it returns the first that does
+-- checks are passed if none refuses; else the first that does is returned
 abbrev pub Passed : {A : Type 0} → List (Option A) → Result (Unit {0}) A → Type 0
-Passed rows (Ok u) = first rows ≡ None
-Passed rows (Err x) = first rows ≡ Some x
+Passed checks (Ok u) = first checks ≡ None
+Passed checks (Err x) = first checks ≡ Some x

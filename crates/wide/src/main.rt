@@ -1,14 +1,14 @@
 #![tactic(auto)]
 
 use book::line::Line;
+use console::answer::{Memory, answer};
 use console::input::fill;
-use console::run::{Memory, serve};
 use docket::MOST_LINES;
 use intake::Reply;
 use logic::concept::Concept;
 use records::reader::count;
 use std::io;
-use std::io::BufWriter;
+use std::io::{BufWriter, Write};
 use vocabulary::MOST_CONCEPTS;
 
 // The program `dossier` with the largest docket that can be opened, and room for its evidence: for comparing and for
@@ -47,6 +47,8 @@ fn main(rt: HostRuntime) -> anyhow::Result<()> {
         rows: &mut rows,
         replies: &mut replies,
     };
-    serve(file, &mut output, memory)?;
+    let report = answer(file, memory)?;
+    write!(output, "{report}")?;
+    output.flush()?;
     Ok(())
 }
