@@ -91,7 +91,7 @@ def functions(path, crate, code):
     module = os.path.relpath(path, os.path.join('crates', crate, 'src'))[:-3]
     prefix = crate if module in ('lib', 'main') else crate + '::' + module.replace(os.sep, '::')
     owners = []
-    for m in re.finditer(r'^(impl|pub trait|trait)\b([^{;]*)\{', code, re.M):
+    for m in re.finditer(r'^(impl|pub trait|trait)\b((?:[^{;\[]|\[[^\]]*\])*)\{', code, re.M):
         depth, i = 0, m.end() - 1
         while i < len(code):
             depth += {'{': 1, '}': -1}.get(code[i], 0)
