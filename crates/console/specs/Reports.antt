@@ -1,8 +1,10 @@
--- What a program prints of a dossier.
-use Rattle.std.specs.Prelude.{ℕ, ◌+◌, List, [], ◌∷◌, ◌++◌, codes}
+-- What a program prints of a dossier, and of a failure.
+use Rattle.std.specs.Prelude.{ℕ, ◌+◌, List, [], ◌∷◌, ◌++◌, codes, Some, None, Option}
 use Rattle.std.specs.Fmt.{decimal}
 use Rattle.intake.specs.declared.Reply.{Reply}
 use Rattle.intake.specs.Printing.{reply_text}
+use Rattle.console.specs.declared.failure.Failure.{Failure}
+use Rattle.console.specs.declared.failure.Failure.TheVariants.{Capacities, Replies, Io}
 
 -- a line for a reply, with the index of its record
 abbrev pub reply_line : ℕ → Reply → List ℕ
@@ -20,3 +22,9 @@ last_line t = codes "end " ++ (decimal t.0 ++ (codes " " ++ (decimal t.1 ++ (cod
 -- the whole of it
 abbrev pub report_text : List Reply → ℕ × ℕ × ℕ → List ℕ
 report_text rs tally = reply_lines 0 rs ++ last_line tally
+
+-- why there is no report; how an error of the system is worded, `std` does not say
+abbrev pub failure_text : Failure → Option (List ℕ)
+failure_text Capacities = Some (codes "no docket of these capacities")
+failure_text Replies = Some (codes "more records than replies")
+failure_text (Io e) = None

@@ -1,5 +1,6 @@
 ghost use Rattle.std.specs.Prelude.{◌≡◌};
 ghost use Rattle.console.specs.declared.failure.Failure.TheVariants.{Io};
+ghost use Rattle.console.specs.Reports.{failure_text};
 
 use std::error::Error;
 use std::{fmt, io};
@@ -16,6 +17,8 @@ pub enum Failure {
 }
 
 impl fmt::Display for Failure {
+    ghost output = { λ f. failure_text f };
+
     fn fmt<W: fmt::Write>(&self, f: &mut fmt::Formatter<W>) -> fmt::Result {
         match self {
             Failure::Capacities => write!(f, "no docket of these capacities"),
