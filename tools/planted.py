@@ -1,9 +1,10 @@
 #!/usr/bin/env python3
 """planted.py [CRATE..] [--limit N] [--seed S] [--fn WORD] [--list] [--work FOLDER] [--out FILE]
 
-Plants bugs in the functions of crates and asks the checker what it says of each. It works on a copy of the repository, and
-changes nothing here. A function is checked against the contracts of what it calls and not against their bodies, so one run can
-judge one bug in each of many functions, as long as none of them calls another.
+Plants bugs in the functions of crates and asks the checker what it says of each: of the crates that are named, or of all
+that the programs are built on. It works on a copy of the repository, and changes nothing here. A function is checked against
+the contracts of what it calls and not against their bodies, so one run can judge one bug in each of many functions, as long
+as none of them calls another.
 
   refused    the function with the bug is not proved
   unfit      a proof file no longer fits the code, which shows little
@@ -19,10 +20,10 @@ OPERATORS = [(' < ', ' <= '), (' <= ', ' < '), (' > ', ' >= '), (' >= ', ' > '),
              (' || ', ' && '), (' + ', ' - '), (' - ', ' + '), (' & ', ' | '), (' | ', ' & '), (' ^ ', ' & '), (' << ', ' >> '),
              (' >> ', ' << '), (' / ', ' % '), (' % ', ' / '), (' |= ', ' &= '), (' &= ', ' |= '), (' |= ', ' = ')]
 METHODS = [('is_some', 'is_none'), ('is_none', 'is_some'), ('min', 'max'), ('max', 'min'), ('all', 'any'), ('any', 'all'),
-           ('is_some_and', 'is_none_or'), ('saturating_sub', 'wrapping_sub'), ('first_absent', 'first_falling')]
+           ('is_some_and', 'is_none_or'), ('saturating_sub', 'wrapping_sub'), ('source', 'target'), ('target', 'source')]
 FIELDS = [('p', 'q'), ('q', 's'), ('s', 'p'), ('m', 'n'), ('n', 'm'), ('left', 'right'), ('right', 'left'), ('from', 'to'), ('to', 'from'),
           ('size', 'point'), ('point', 'size'), ('marks', 'edges'), ('edges', 'marks'), ('element', 'name'), ('first', 'second'),
-          ('second', 'first'), ('concepts', 'lines'), ('rule', 'index')]
+          ('second', 'first'), ('concepts', 'lines'), ('rule', 'index'), ('absent', 'falling'), ('falling', 'absent')]
 INTEGERS = ('u8', 'u16', 'u32', 'u64', 'usize')
 CASES = {'Refusal': ['Phase', 'Range(0)', 'Absent(0)', 'Full(256)', 'Order(0)', 'Unpaired'], 'Status': ['Open', 'Empty', 'Inhabited'],
          'Phase': ['Open', 'Sealed'], 'Subject': ['RoleAxiom', 'Concept', 'Pair', 'Axiom', 'Seal', 'Line', 'Claim', 'Closing'],
@@ -269,6 +270,19 @@ def judged(f, found):
     return 'PROVED' if all(s == 'proved' for s in own + inner) else 'refused'
 
 
+def built_on():
+    """The crates that the programs are built on, in the order of crates.txt: those of trials have no contracts to ask."""
+    lines = [line.split(':') for line in open('crates.txt') if ':' in line and not line.startswith('#')]
+    named = {name: deps.split() for name, deps in lines}
+    below, todo = set(), [name for name in named if os.path.isfile(os.path.join('crates', name, 'src', 'main.rt'))]
+    while todo:
+        for dep in named.get(todo.pop(), []):
+            if dep in named and dep not in below:
+                below.add(dep)
+                todo.append(dep)
+    return [name for name in named if name in below]
+
+
 def main():
     p = argparse.ArgumentParser(usage=__doc__)
     p.add_argument('crates', nargs='*')
@@ -282,8 +296,8 @@ def main():
     root = os.getcwd()
     if not os.path.isfile('crates.txt'):
         sys.exit('planted.py: run it at the top of the repository')
-    crates = o.crates or [line.split(':')[0] for line in open('crates.txt') if ':' in line]
-    room = o.work or tempfile.mkdtemp(prefix='planted-')
+    crates = o.crates or built_on()
+    room = o.work or ('' if o.list else tempfile.mkdtemp(prefix='planted-'))
     copy = os.path.join(room, 'repo')
     if not o.list and not os.path.isdir(copy):
         shutil.copytree(root, copy, symlinks=True, ignore=shutil.ignore_patterns('.git', 'must-fail'))

@@ -28,5 +28,12 @@ fn run(limit: u64, answer: impl Fn(&[u8]) -> Vec<u8>) -> io::Result<()> {
     io::stdin().lock().take(limit).read_to_end(&mut file)?;
     let mut out = io::stdout().lock();
     out.write_all(&answer(&file))?;
-    out.flush()
+    out.flush()?;
+    if file.len() as u64 == limit {
+        writeln!(
+            io::stderr(),
+            "the limit of {limit} bytes is reached; what may lie behind them was not looked at"
+        )?;
+    }
+    Ok(())
 }

@@ -1,21 +1,25 @@
 ghost use Rattle.std.specs.Prelude.{◌≡◌};
 ghost use Rattle.book.specs.Lines.{label_of};
-ghost use Rattle.book.specs.Drafts.{Checked, ChecksAreRight, range_checks, absent_checks, unfit, least_outside, conclusion};
+ghost use Rattle.book.specs.Drafts.{Checked, ChecksAreRight, range_checks, absent_checks, label, unfit, least_outside, concluded, members};
+ghost use Rattle.labels.specs.Labels.{absent_at};
 ghost use Rattle.refusals.specs.Checks.{Passed};
+ghost use Rattle.std.specs.Prelude.{◌^◌, ◌<◌, length};
+ghost use Rattle.std.specs.Option.{ForSome};
+ghost use Rattle.vocabulary.specs.Vocabularies.{concepts, theory};
 
 use crate::line::{Cited, Line, Step};
-use crate::members::{check_principals, check_rising, check_standing};
+use crate::members::{check_principals, check_rising, check_standing, check_whole};
 use calculus::bank::Bank;
 use calculus::premise::Premise;
 use calculus::rule::Principals;
-use labels::members::row_of;
+use labels::members::read;
 use labels::rows::first_outside;
 use refusals::Refusal;
 use refusals::checks::check_stands;
 use vocabulary::Vocabulary;
 
-/// A line as it is handed over: a step, the lines that it cites (0 where its rule cites none), and the members of its
-/// label, two bytes for each.
+/// A line as it is handed over: a step, the lines that it cites (0 where its rule cites none), and
+/// the members of its label, two bytes for each.
 #[derive(Clone, Copy)]
 pub struct Draft<'m> {
     pub rule: u16,
@@ -25,7 +29,7 @@ pub struct Draft<'m> {
     pub members: &'m [u8],
 }
 
-// The rule number and the cited lines that it doesn't use.
+// The rule number, the cited lines that it doesn't use, and the bytes of the members.
 fn check_range<B: Bank>(bank: &B, f: &Draft) -> Result<(), Refusal>
     ensures { Passed (range_checks (B.Bank.calculus bank.now) f.now) result }
 {
@@ -39,15 +43,23 @@ fn check_range<B: Bank>(bank: &B, f: &Draft) -> Result<(), Refusal>
     if cites < 2 && f.n != 0 {
         return Err(Refusal::Range(5));
     }
-    Ok(())
+    check_whole(f.members, 6)
 }
 
-// What the draft names has to stand.
-fn check_named<B: Bank>(bank: &B, v: &Vocabulary, lines: &[Line], f: &Draft) -> Result<(), Refusal>
-    ensures { Passed (absent_checks (B.Bank.calculus bank.now) v.now lines.now f.now) result }
+// What the draft names has to stand, where `absent` is the first position of its members whose
+// member does not.
+fn check_named<B: Bank>(
+    bank: &B,
+    v: &Vocabulary,
+    lines: &[Line],
+    f: &Draft,
+    absent: Option<usize>,
+) -> Result<(), Refusal>
+    requires is { absent ≡ absent_at (length (concepts v.now)) (members f.now) }
+    requires fits { ForSome absent (λ i. i < 2 ^ 63) }
+    ensures { Passed (absent_checks (B.Bank.calculus bank.now) (theory v.now) lines.now f.now) result }
 {
-    let count = v.len();
-    check_principals(f.on, count)?;
+    check_principals(f.on, v.len())?;
     let cites = bank.cites(f.rule);
     if cites > 0 {
         check_stands(f.m, lines.len(), 4)?;
@@ -55,10 +67,10 @@ fn check_named<B: Bank>(bank: &B, v: &Vocabulary, lines: &[Line], f: &Draft) -> 
     if cites > 1 {
         check_stands(f.n, lines.len(), 5)?;
     }
-    check_standing(f.members, count, 6)
+    check_standing(absent, 6)
 }
 
-// The least concept of the row `y` that is outside conclusion `i`.
+// The least concept of the row `y` that is outside conclusion `i`; `x` is the draft's label.
 fn outside_conclusion<B: Bank>(
     bank: &B,
     v: &Vocabulary,
@@ -67,7 +79,8 @@ fn outside_conclusion<B: Bank>(
     i: u8,
     y: &[u64; 16],
 ) -> Option<u16>
-    ensures { result ≡ least_outside y.now (conclusion (B.Bank.calculus bank.now) v.now f.now x.now i) }
+    requires { x.now ≡ label f.now }
+    ensures { result ≡ least_outside y.now (concluded (B.Bank.calculus bank.now) (theory v.now) f.now i) }
 {
     let at = Premise {
         vocabulary: v,
@@ -78,8 +91,8 @@ fn outside_conclusion<B: Bank>(
     first_outside(y, &row)
 }
 
-// The label of a line; the empty one if there is no such line. An Option is no plainer: whether the line stands was asked before.
-// By a match: with `map_or` its contract was not proved.
+// The label of a line; the empty one if there is no such line. Whether the line stands was asked
+// before.
 fn label_of(lines: &[Line], k: u16) -> [u64; 16]
     ensures { result ≡ label_of lines.now k }
 {
@@ -89,7 +102,8 @@ fn label_of(lines: &[Line], k: u16) -> [u64; 16]
     }
 }
 
-// The least concept of the first cited line that lies outside its conclusion.
+// The least concept of the first cited line that lies outside its conclusion; `x` is the draft's
+// label.
 fn first_unfit<B: Bank>(
     bank: &B,
     v: &Vocabulary,
@@ -97,7 +111,8 @@ fn first_unfit<B: Bank>(
     f: &Draft,
     x: &[u64; 16],
 ) -> Option<u16>
-    ensures { result ≡ unfit (B.Bank.calculus bank.now) v.now lines.now f.now x.now }
+    requires { x.now ≡ label f.now }
+    ensures { result ≡ unfit (B.Bank.calculus bank.now) (theory v.now) lines.now f.now }
 {
     let cites = bank.cites(f.rule);
     if cites > 0 {
@@ -121,15 +136,16 @@ pub fn check<B: Bank>(
     room: usize,
     f: &Draft,
 ) -> Result<Line, Refusal>
-    ensures { Checked (B.Bank.calculus bank.now) v.now lines.now room f.now result }
+    ensures { Checked (B.Bank.calculus bank.now) (theory v.now) lines.now room f.now result }
 {
     check_range(bank, f)?;
-    check_named(bank, v, lines, f)?;
+    let reading = read(f.members, v.len());
+    check_named(bank, v, lines, f, reading.absent)?;
     if lines.len() >= room {
         return Err(Refusal::Full(room));
     }
-    check_rising(f.members, 6)?;
-    let label = row_of(f.members);
+    check_rising(reading.falling, 6)?;
+    let label = reading.row;
     let at = Premise {
         vocabulary: v,
         on: f.on,
@@ -138,7 +154,7 @@ pub fn check<B: Bank>(
     if !bank.applies(f.rule, &at) {
         return Err(Refusal::Inapplicable(f.rule));
     }
-    // what is found is the refusal, and `map_or(Ok(()), ..)?` is no plainer
+    // what is found is the refusal
     if let Some(c) = first_unfit(bank, v, lines, f, &label) {
         return Err(Refusal::Unlicensed(c));
     }
@@ -153,8 +169,8 @@ pub fn check<B: Bank>(
     })
 }
 
-/// That no check of the table refuses a draft says exactly that it is admitted, licence and all. A call of it does
-/// nothing; that it is proved says that it holds.
+/// That no check of the table refuses a draft says exactly that it is admitted, licence and all. A
+/// call of it does nothing; that it is proved says that it holds.
 pub fn checks_are_right()
     ensures { ChecksAreRight }
 {}

@@ -34,7 +34,8 @@ pub struct Step {
     pub cited: Cited,
 }
 
-/// A line of the book: a label, as a row with a bit for each concept, and the step by which no element has all of it.
+/// A line of the book: a label, as a row with a bit for each concept, and the step by which no
+/// element has all of it.
 #[derive(Clone, Copy, Default)]
 pub struct Line {
     pub step: Step,

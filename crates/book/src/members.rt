@@ -1,16 +1,19 @@
-ghost use Rattle.std.specs.Prelude.{◌+◌, [], ◌∷◌};
-ghost use Rattle.file_bytes.specs.Bytes.{numbers};
-ghost use Rattle.labels.specs.Labels.{absent_at, falling_at};
-ghost use Rattle.refusals.specs.Checks.{with, Passed};
-ghost use Rattle.refusals.specs.declared.Refusal.TheVariants.{Absent, Order};
+ghost use Rattle.std.specs.Prelude.{ℕ, ◌+◌, ◌/◌, ◌^◌, ◌<◌, [], ◌∷◌, length};
+ghost use Rattle.std.specs.Option.{ForSome};
+ghost use Rattle.labels.specs.Labels.{is_cut};
+ghost use Rattle.refusals.specs.Checks.{when, with, Passed};
 ghost use Rattle.book.specs.Drafts.{principal_checks};
 
 use calculus::rule::Principals;
-use labels::members::{first_absent, first_falling};
 use refusals::Refusal;
 use refusals::checks::check_stands;
 
-/// Whether the concepts that a step names stand, where `count` concepts do; they have the positions 1 to 3 of their call.
+// The checks of a label's members are apart, since calls ask for other things between them. A label
+// begins at position `from` of its call, and what was found in it is told by one reading of its
+// members (`labels::members::read`).
+
+/// Whether the concepts that a step names stand, where `count` concepts do; they have the positions
+/// 1 to 3 of their call.
 pub fn check_principals(on: Principals, count: usize) -> Result<(), Refusal>
     ensures { Passed (principal_checks count on) result }
 {
@@ -19,16 +22,32 @@ pub fn check_principals(on: Principals, count: usize) -> Result<(), Refusal>
     check_stands(on.s, count, 3)
 }
 
-/// Whether all members of a label stand, where `count` concepts do; the label begins at position `from` of its call.
-pub fn check_standing(members: &[u8], count: usize, from: u8) -> Result<(), Refusal>
-    ensures { Passed (with (λ i. Absent (i + from)) (absent_at count (numbers members.now)) ∷ []) result }
+/// Whether the last member of a label has both of its bytes; else the memory is too short at its
+/// position.
+pub fn check_whole(members: &[u8], from: u8) -> Result<(), Refusal>
+    ensures { Passed (when (is_cut members.now) (3, length members.now / 2 + from) ∷ []) result }
 {
-    first_absent(members, count).map_or(Ok(()), |i| Err(Refusal::Absent(i + from as usize)))
+    if members.len() % 2 == 1 {
+        Err(Refusal::Range(members.len() / 2 + from as usize))
+    } else {
+        Ok(())
+    }
 }
 
-/// Whether each member of a label is above the one before it.
-pub fn check_rising(members: &[u8], from: u8) -> Result<(), Refusal>
-    ensures { Passed (with (λ i. Order (i + from)) (falling_at (numbers members.now)) ∷ []) result }
+/// Whether all members of a label stand, where `absent` is the first position whose member does
+/// not.
+pub fn check_standing(absent: Option<usize>, from: u8) -> Result<(), Refusal>
+    requires { ForSome absent (λ i. i < 2 ^ 63) }
+    ensures { Passed (with (λ i. (4, i + from)) absent ∷ []) result }
 {
-    first_falling(members).map_or(Ok(()), |i| Err(Refusal::Order(i + from as usize)))
+    absent.map_or(Ok(()), |i| Err(Refusal::Absent(i + from as usize)))
+}
+
+/// Whether each member of a label is above the one before it, where `falling` is the first position
+/// whose member is not.
+pub fn check_rising(falling: Option<usize>, from: u8) -> Result<(), Refusal>
+    requires { ForSome falling (λ i. i < 2 ^ 63) }
+    ensures { Passed (with (λ i. (6, i + from)) falling ∷ []) result }
+{
+    falling.map_or(Ok(()), |i| Err(Refusal::Order(i + from as usize)))
 }

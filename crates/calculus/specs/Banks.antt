@@ -1,22 +1,32 @@
 -- The law of a bank from the laws of its rules.
-use Rattle.std.specs.Prelude.{◌≡◌, ℕ, ◌<◌, ◌≤◌, Bool, true, false, cond, ◌&&◌, ◌||◌, ◌==◌, refl}
-use Rattle.std.proofs.lemmas.Bool.{false≢true, and_parts}
-use Rattle.bits.specs.Bits.{has as has-bit}
-use Rattle.vocabulary.specs.declared.Vocabulary.{Vocabulary}
-use Rattle.calculus.specs.Schemas.{Schema, Sound, Lawful}
+use Rattle.std.specs.Prelude.{◌≡◌, ℕ, ◌≤◌, Bool, true, false, cond, ◌&&◌, ◌||◌, ◌==◌, refl}
+use Rattle.std.proofs.lemmas.Bool.{false≢true, and_parts, and_from}
+use Rattle.logic.specs.Theories.{Theory}
+use Rattle.calculus.specs.Schemas.{Schema, Sound, MayConclude, Lawful}
 use Rattle.calculus.specs.Calculi.{Calculus, LawfulCalculus, alone, beside}
 
 -- a step that is taken on a condition is as sound as it is
-only_sound : (z : Bool) (v : Vocabulary) (X : ℕ → Bool) (a : Bool) (n : ℕ) (f : ℕ → ℕ → Bool) → Sound v X a n f → Sound v X (z && a) n (λ i c. z && f i c)
-only_sound true v X a n f s = s
-only_sound false v X a n f s = λ I kept meets h. absurd (false≢true h)
+only_sound : (z : Bool) (t : Theory) (X : ℕ → Bool) (a : Bool) (n : ℕ) (f : ℕ → ℕ → Bool)
+    → Sound t X a n f → Sound t X (z && a) n (λ i c. z && f i c)
+only_sound true t X a n f s = s
+only_sound false t X a n f s = λ I kept meets h. absurd (false≢true h)
 
 pub alone_lawful : (r : Schema) → Lawful r → LawfulCalculus (alone r)
 alone_lawful r l = record {
-  few = λ n. l.few;
-  known = λ n v on x h. (and_parts (n == r.number) (r.applies v on x) h).0;
-  bounded = λ n v on x i c h. l.bounded v on x i c (and_parts (n == r.number) (r.concludes v on x i c) h).1;
-  sound = λ n v on x. only_sound (n == r.number) v (has-bit x) (r.applies v on x) r.cites (r.concludes v on x) (l.sound v on x);
+  is_sound = record {
+    few = λ n. l.few;
+    sound =
+        λ n t on X. only_sound (n == r.number) t X (r.applies t on X) r.cites (r.concludes t on X) (l.sound t on X);
+  };
+  known = λ n t on X h. (and_parts (n == r.number) (r.applies t on X) h).0;
+  concluding = λ n t on X i c h.
+      let p = and_parts (n == r.number) (r.concludes t on X i c) h in
+      let m = l.concluding t on X i c p.1 in
+      record {
+        step_applies = and_from (n == r.number) (r.applies t on X) p.0 m.step_applies;
+        has_conclusion = m.has_conclusion;
+        stands = m.stands;
+      };
 }
 
 -- what holds of either holds of the one that is chosen
@@ -32,15 +42,27 @@ pub either_taken : (z a b : Bool) (P : Type 0) → (a ≡ true → P) → (b ≡
 either_taken true a b P f g h = f h
 either_taken false a b P f g h = g h
 
-either_sound : (z : Bool) (v : Vocabulary) (X : ℕ → Bool) (a a' : Bool) (n n' : ℕ) (f f' : ℕ → ℕ → Bool) → Sound v X a n f → Sound v X a' n' f'
-    → Sound v X (cond z a a') (cond z n n') (λ i c. cond z (f i c) (f' i c))
-either_sound true v X a a' n n' f f' l r = l
-either_sound false v X a a' n n' f f' l r = r
+either_concluding : (z : Bool) (t : Theory) (a a' : Bool) (n n' : ℕ) (f f' : Bool) (i c : ℕ)
+    → (f ≡ true → MayConclude t a n i c) → (f' ≡ true → MayConclude t a' n' i c) → cond z f f' ≡ true
+    → MayConclude t (cond z a a') (cond z n n') i c
+either_concluding true t a a' n n' f f' i c l r h = l h
+either_concluding false t a a' n n' f f' i c l r h = r h
+
+either_sound : (z : Bool) (t : Theory) (X : ℕ → Bool) (a a' : Bool) (n n' : ℕ) (f f' : ℕ → ℕ → Bool)
+    → Sound t X a n f → Sound t X a' n' f'
+    → Sound t X (cond z a a') (cond z n n') (λ i c. cond z (f i c) (f' i c))
+either_sound true t X a a' n n' f f' l r = l
+either_sound false t X a a' n n' f f' l r = r
 
 pub beside_lawful : (a b : Calculus) → LawfulCalculus a → LawfulCalculus b → LawfulCalculus (beside a b)
 beside_lawful a b la lb = record {
-  few = λ n. either_few (a.has n) (a.cites n) (b.cites n) (la.few n) (lb.few n);
-  known = λ n v on x. either_known (a.has n) (b.has n) (a.applies n v on x) (b.applies n v on x) (lb.known n v on x);
-  bounded = λ n v on x i c. either_taken (a.has n) (a.concludes n v on x i c) (b.concludes n v on x i c) (c < 1024) (la.bounded n v on x i c) (lb.bounded n v on x i c);
-  sound = λ n v on x. either_sound (a.has n) v (has-bit x) _ _ _ _ _ _ (la.sound n v on x) (lb.sound n v on x);
+  is_sound = record {
+    few = λ n. either_few (a.has n) (a.cites n) (b.cites n) (la.is_sound.few n) (lb.is_sound.few n);
+    sound =
+        λ n t on X. either_sound (a.has n) t X _ _ _ _ _ _ (la.is_sound.sound n t on X) (lb.is_sound.sound n t on X);
+  };
+  known =
+      λ n t on X. either_known (a.has n) (b.has n) (a.applies n t on X) (b.applies n t on X) (lb.known n t on X);
+  concluding =
+      λ n t on X i c. either_concluding (a.has n) t _ _ _ _ _ _ i c (la.concluding n t on X i c) (lb.concluding n t on X i c);
 }

@@ -1,4 +1,3 @@
-pub mod Inhabiting
 pub mod Premises
 pub mod Schemas
 pub mod Calculi

@@ -2,7 +2,8 @@
 use Rattle.std.specs.Prelude.{Bool, cond, ◌&&◌, None, Option, ◌==◌}
 use Rattle.bits.specs.Bits.{has}
 use Rattle.logic.specs.declared.concept.Concept.{Concept}
-use Rattle.vocabulary.specs.Vocabularies.{concept_at}
+use Rattle.logic.specs.Theories.{concept_at}
+use Rattle.vocabulary.specs.Vocabularies.{theory}
 use Rattle.calculus.specs.declared.premise.Premise.{Premise}
 use Rattle.calculus.specs.declared.rule.Principals.{Principals}
 
@@ -12,4 +13,6 @@ p_alone on = on.q == 0 && on.s == 0
 
 -- concept p, if the step names it alone and it is in the label
 abbrev pub sole_principal : Premise → Option Concept
-sole_principal at = cond (has at.label.now at.on.p && p_alone at.on) (concept_at at.vocabulary.now at.on.p) None
+sole_principal at =
+    cond (has at.label.now at.on.p && p_alone at.on)
+    (concept_at (theory at.vocabulary.now) at.on.p) None

@@ -1,13 +1,16 @@
 ghost use Rattle.std.specs.Prelude.{◌≡◌};
+ghost use Rattle.bits.specs.Bits.{has};
 ghost use Rattle.labels.specs.Labels.{Row};
+ghost use Rattle.vocabulary.specs.Vocabularies.{theory};
 ghost use Rattle.calculus.specs.Calculi.{Calculus, LawfulCalculus, alone, beside};
 ghost use Rattle.calculus.specs.Banks.{alone_lawful, beside_lawful};
 
 use crate::premise::Premise;
 use crate::rule::Rule;
 
-/// A bank of rules: one rule, or two banks side by side. It answers by the leftmost rule with the step's number; with a
-/// number that no rule has, no step applies. It is lent to the calls that need one.
+/// A bank of rules: one rule, or two banks side by side. It answers by the leftmost rule with the
+/// step's number; with a number that no rule has, no step applies. It is lent to the calls that
+/// need one.
 pub trait Bank {
     // what its rules say
     ghost calculus: { Self → Calculus };
@@ -22,11 +25,11 @@ pub trait Bank {
 
     /// Whether the step applies.
     fn applies(&self, rule: u16, at: &Premise) -> bool
-        ensures { result ≡ (calculus self.now).applies rule at.now.vocabulary.now at.now.on at.now.label.now };
+        ensures { result ≡ (calculus self.now).applies rule (theory at.now.vocabulary.now) at.now.on (has at.now.label.now) };
 
     /// Conclusion `i`, as a row.
     fn conclusion(&self, rule: u16, at: &Premise, i: u8) -> [u64; 16]
-        ensures { Row result ((calculus self.now).concludes rule at.now.vocabulary.now at.now.on at.now.label.now i) };
+        ensures { Row result ((calculus self.now).concludes rule (theory at.now.vocabulary.now) at.now.on (has at.now.label.now) i) };
 
     ghost lawful: { (b : Self) → LawfulCalculus (calculus b) };
 }
@@ -63,8 +66,8 @@ impl<R: Rule> Bank for Single<R> {
     }
 }
 
-/// Two banks side by side. Each question asks the side that has the rule; to pick that side once would take a `dyn Bank`,
-/// which is no plainer for three questions.
+/// Two banks side by side. Each question asks the side that has the rule; to pick that side once
+/// would take a `dyn Bank`, which is no plainer for three questions.
 #[derive(Default, Drop)]
 pub struct Pair<L, R> {
     pub left: L,
@@ -74,7 +77,8 @@ pub struct Pair<L, R> {
 impl<L: Bank, R: Bank> Bank for Pair<L, R> {
     ghost calculus = { λ b. beside (L.Bank.calculus b.left) (R.Bank.calculus b.right) };
 
-    ghost lawful = { λ b. beside_lawful (L.Bank.calculus b.left) (R.Bank.calculus b.right) (L.Bank.lawful b.left) (R.Bank.lawful b.right) };
+    ghost lawful = { λ b. beside_lawful (L.Bank.calculus b.left) (R.Bank.calculus b.right)
+        (L.Bank.lawful b.left) (R.Bank.lawful b.right) };
 
     fn has(&self, rule: u16) -> bool {
         self.left.has(rule) || self.right.has(rule)

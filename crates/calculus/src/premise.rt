@@ -1,7 +1,7 @@
 ghost use Rattle.std.specs.Prelude.{◌≡◌};
 ghost use Rattle.bits.specs.Bits.{has};
-ghost use Rattle.vocabulary.specs.Mates.{are_mates};
-ghost use Rattle.vocabulary.specs.Vocabularies.{concept_at};
+ghost use Rattle.logic.specs.Theories.{concept_at, are_mates};
+ghost use Rattle.vocabulary.specs.Vocabularies.{theory};
 ghost use Rattle.calculus.specs.Premises.{sole_principal};
 
 use crate::rule::Principals;
@@ -9,7 +9,8 @@ use bits;
 use logic::concept::Concept;
 use vocabulary::Vocabulary;
 
-/// What a step starts from: what has been filed, the concepts that the step names, and the label that it is taken at.
+/// What a step starts from: what has been filed, the concepts that the step names, and the label
+/// that it is taken at.
 #[derive(Clone, Copy)]
 pub struct Premise<'s, 'v> {
     pub vocabulary: &'s Vocabulary<'v>,
@@ -20,7 +21,7 @@ pub struct Premise<'s, 'v> {
 impl<'s, 'v> Premise<'s, 'v> {
     /// Concept `c`, if it stands.
     pub fn concept(&self, c: u16) -> Option<Concept>
-        ensures { result ≡ concept_at self.now.vocabulary.now c }
+        ensures { result ≡ concept_at (theory self.now.vocabulary.now) c }
     {
         self.vocabulary.concept(c)
     }
@@ -35,7 +36,7 @@ impl<'s, 'v> Premise<'s, 'v> {
 
     /// Whether p and q are mates.
     pub fn mates(&self) -> bool
-        ensures { result ≡ are_mates self.now.vocabulary.now.mates self.now.on.p self.now.on.q }
+        ensures { result ≡ are_mates (theory self.now.vocabulary.now).mates self.now.on.p self.now.on.q }
     {
         self.vocabulary.are_mates(self.on.p, self.on.q)
     }

@@ -1,6 +1,8 @@
 ghost use Rattle.std.specs.Prelude.{◌≡◌, ℕ, ◌&&◌, nat_le, nat_lt};
+ghost use Rattle.bits.specs.Bits.{has};
 ghost use Rattle.labels.specs.Least.{least};
 ghost use Rattle.labels.specs.Labels.{Row};
+ghost use Rattle.vocabulary.specs.Vocabularies.{theory};
 ghost use Rattle.calculus.specs.Premises.{p_alone};
 ghost use Rattle.calculus.specs.Schemas.{Schema, Lawful};
 
@@ -25,8 +27,8 @@ impl Principals {
     }
 }
 
-/// A rule of the calculus. It says when a step applies to a label, and which standing concepts its conclusions have. It
-/// refuses nothing, and asking alters nothing.
+/// A rule of the calculus. It says when a step applies to a label, and which standing concepts its
+/// conclusions have. It refuses nothing, and asking alters nothing.
 pub trait Rule {
     /// Its number.
     const RULE_NUMBER: u16;
@@ -43,22 +45,24 @@ pub trait Rule {
 
     /// Whether the step applies.
     fn applies(&self, at: &Premise) -> bool
-        ensures { result ≡ (schema self.now).applies at.now.vocabulary.now at.now.on at.now.label.now };
+        ensures { result ≡ (schema self.now).applies (theory at.now.vocabulary.now) at.now.on (has at.now.label.now) };
 
     /// Conclusion `i`, as a row.
     fn conclusion(&self, at: &Premise, i: u8) -> [u64; 16]
-        ensures { Row result ((schema self.now).concludes at.now.vocabulary.now at.now.on at.now.label.now i) };
+        ensures { Row result ((schema self.now).concludes (theory at.now.vocabulary.now) at.now.on (has at.now.label.now) i) };
 
     /// Whether the step applies and has a conclusion `i`.
     fn has_conclusion(&self, at: &Premise, i: u8) -> bool
-        ensures { result ≡ (nat_lt i CITED_LINES && (schema self.now).applies at.now.vocabulary.now at.now.on at.now.label.now) }
+        ensures { result ≡ (nat_lt i CITED_LINES
+            && (schema self.now).applies (theory at.now.vocabulary.now) at.now.on (has at.now.label.now)) }
     {
         i < Self::CITED_LINES && self.applies(at)
     }
 
-    /// Whether concept `c` is in conclusion `i`.
+    /// Whether concept `c` is in conclusion `i`; concepts are 0 to 1,023.
     fn concludes(&self, at: &Premise, i: u8, c: u16) -> bool
-        ensures { result ≡ (schema self.now).concludes at.now.vocabulary.now at.now.on at.now.label.now i c }
+        ensures { result ≡ (nat_lt c 1024
+            && (schema self.now).concludes (theory at.now.vocabulary.now) at.now.on (has at.now.label.now) i c) }
     {
         let row = self.conclusion(at, i);
         bits::has(&row, c as usize)
@@ -66,7 +70,8 @@ pub trait Rule {
 
     /// The next concept from `c` upward in conclusion `i`.
     fn next(&self, at: &Premise, i: u8, c: u16) -> Option<u16>
-        ensures { result ≡ least 1024 (λ k. nat_le c k && (schema self.now).concludes at.now.vocabulary.now at.now.on at.now.label.now i k) }
+        ensures { result ≡ least 1024 (λ k. nat_le c k
+            && (schema self.now).concludes (theory at.now.vocabulary.now) at.now.on (has at.now.label.now) i k) }
     {
         let row = self.conclusion(at, i);
         next_from(&row, c)
@@ -77,7 +82,9 @@ pub trait Rule {
 
     ghost has_count: { (r : Self) → (schema r).cites ≡ CITED_LINES };
 
-    // at most two lines, concepts below 1,024 alone, and the soundness law: if a finite interpretation that meets the axioms has an
-    // element in all of the label, and the step applies, it has one in all of some conclusion
+    // at most two lines; in a conclusion standing concepts alone, none past the last conclusion,
+    // none when the step doesn't apply; and the soundness law: if a finite interpretation that
+    // meets the axioms has an element in all of the label, and the step applies, it has one in all
+    // of some conclusion
     ghost lawful: { (r : Self) → Lawful (schema r) };
 }

@@ -17,12 +17,18 @@ claim_at x k = slice_index_or (filed x) k blank_claim
 
 -- x becomes y as a claim with this label is filed: it stands at the end and is open
 abbrev pub ClaimFiled : Claims → Claims → List ℕ → Option ℕ → Type 0
-ClaimFiled x y label (Some i) = (i ≡ length (filed x)) × (length (filed x) < 256) × (filed y ≡ filed x ++ record { label = label; status = Open } ∷ [])
+ClaimFiled x y label (Some i) =
+    (i ≡ length (filed x)) × (length (filed x) < 256)
+    × (filed y ≡ filed x ++ record { label = label; status = Open } ∷ [])
+    × (y ≡ record x { list = filed y })
 ClaimFiled x y label None = (256 ≤ length (filed x)) × (y ≡ x)
 
 -- x becomes y as claim k is settled
 abbrev pub Settled : Claims → Claims → ℕ → Status → Bool → Type 0
-Settled x y k s true = (k < length (filed x)) × (filed y ≡ slice_set (filed x) k (record { label = (claim_at x k).label; status = s }))
+Settled x y k s true =
+    (k < length (filed x))
+    × (filed y ≡ slice_set (filed x) k (record { label = (claim_at x k).label; status = s }))
+    × (y ≡ record x { list = filed y })
 Settled x y k s false = (length (filed x) ≤ k) × (y ≡ x)
 
 -- whether a claim is neither empty nor inhabited yet

@@ -8,10 +8,11 @@ ghost use Rattle.closure.specs.Closure.{row_words, Square, cell, Exact, own_word
 use bits::bit;
 use logic::role::inverse;
 
-// The closure of the inclusions among any number of roles, in a table that the caller owns: row r has a bit for each
-// role that r is below. The table is closed at all times, so that one pass over the rows puts in one pair more. Each
-// function takes the table and the number of roles: the table is the caller's, of any size, so that a struct over both
-// would be two, one that reads and one that writes.
+// The closure of the inclusions among any number of roles, in a table that the caller owns: row r
+// has a bit for each role that r is below. The table is closed at all times, so that one pass over
+// the rows puts in one pair more. Each function takes the table and the number of roles: the table
+// is the caller's, of any size, so that a struct over both would be two, one that reads and one
+// that writes.
 
 // How many words a row has.
 fn row_words(roles: usize) -> usize
@@ -35,7 +36,8 @@ pub fn start(table: &mut [u64], roles: usize)
     ensures { Exact table.new roles [] }
 {
     let width = row_words(roles);
-    // by index: of words written through an adapter of `iter_mut` nothing is known when the loop ends
+    // by index: of words written through an adapter of `iter_mut` nothing is known when the loop
+    // ends
     for at in 0..table.len() {
         table[at] = own_word(at / width, at % width);
     }
@@ -68,8 +70,8 @@ fn join_row(table: &mut [u64], roles: usize, i: usize, s: usize)
     }
 }
 
-// Puts the pair (r, s) into a closed table: what is below `r` gets below all that `s` is below. Row `s` needs no copy:
-// if it is written at all, it takes over itself and stays as it was.
+// Puts the pair (r, s) into a closed table: what is below `r` gets below all that `s` is below. Row
+// `s` needs no copy: if it is written at all, it takes over itself and stays as it was.
 fn add_pair(table: &mut [u64], roles: usize, r: usize, s: usize)
     requires square { Square table.old roles }
     requires first { r < roles }
@@ -92,7 +94,8 @@ pub fn include(table: &mut [u64], roles: usize, r: usize, s: usize)
     requires second { s < roles }
     requires even { roles % 2 ≡ 0 }
     requires few { roles < 2 ^ 32 }
-    ensures { (axioms : List RoleAxiom) → Exact table.old roles axioms → Exact table.new roles (axioms ++ (Inclusion r s ∷ [])) }
+    ensures { (axioms : List RoleAxiom) → Exact table.old roles axioms
+        → Exact table.new roles (axioms ++ (Inclusion r s ∷ [])) }
 {
     add_pair(table, roles, r, s);
     add_pair(table, roles, inverse(r), inverse(s));

@@ -1,28 +1,35 @@
 -- What has been read of an input, where its bytes are known.
-use Rattle.std.proofs.Common.{◌≡◌, ℕ, suc, ◌+◌, ◌≤◌, List, [], ◌∷◌, ◌++◌, length, take, Some, None, Option, sym, ap, ◌∙◌, append_assoc, arith}
-use Rattle.std.proofs.lemmas.List.{take-append-le, length-take-le}
+use Rattle.std.proofs.Common.{◌≡◌, ℕ, ◌+◌, ◌≤◌, List, [], ◌++◌, length, take, drop, Some, None, Option, refl, sym, ap, ◌∙◌, append_assoc, length-take, length-drop, arith}
+use Rattle.std.proofs.lemmas.List.{drop-drop}
+use Rattle.std.proofs.lemmas.Slice.{take-put_mid, drop-put_mid}
 use Rattle.std.specs.Io.KnownBytes.{Consumes}
-use borrow.Rule.Slice.PartMut.{put_mid, post_of}
+use borrow.Rule.Slice.PartMut.{put_mid, same_len_mid}
 
-take_past : (p q : List ℕ) (m : ℕ) → take (length p + m) (p ++ q) ≡ p ++ take m q
-take_past [] q m = let e : 0 + m ≡ m = omega arith in ap (λ n. take n q) e
-take_past (x ∷ p) q m =
-    let e : length (x ∷ p) + m ≡ suc (length p + m) = omega arith in
-    ap (λ n. take n (x ∷ (p ++ q))) e ∙ ap (λ l. x ∷ l) (take_past p q m)
+-- nothing is read yet
+pub read_none : (old : Option (List ℕ)) → Consumes old old []
+read_none None = tt
+read_none (Some xs) = refl
 
--- a part is written after the first a bytes of the buffer
-module _ (buffer part : List ℕ) (a k : ℕ) (inside : a ≤ length buffer) where
-  front_grows : (m : ℕ) → m ≤ length part → take (a + m) (put_mid a k buffer part) ≡ take a buffer ++ take m part
-  front_grows m l =
-      let e : length (take a buffer) ≡ a = length-take-le a buffer inside in
-      ap (λ n. take (n + m) (put_mid a k buffer part)) (sym e)
-      ∙ take_past (take a buffer) (part ++ post_of a k buffer) m
-      ∙ ap (λ l. take a buffer ++ l) (take-append-le m part (post_of a k buffer) l)
+-- a part more is read
+pub read_more : (old mid new : Option (List ℕ)) (xs ys zs : List ℕ) → zs ≡ xs ++ ys → Consumes old mid xs → Consumes mid new ys → Consumes old new zs
+read_more None mid new xs ys zs e p q = tt
+read_more (Some ws) None new xs ys zs e p q = absurd p
+read_more (Some ws) (Some bs) None xs ys zs e p q = absurd q
+read_more (Some ws) (Some bs) (Some cs) xs ys zs e p q = p ∙ ap (λ l. xs ++ l) q ∙ sym (append_assoc xs ys cs) ∙ ap (λ l. l ++ cs) (sym e)
 
-  pub read_more : (old mid new : Option (List ℕ)) (m : ℕ) → m ≤ length part → Consumes old mid (take a buffer) → Consumes mid new (take m part)
-      → Consumes old new (take (a + m) (put_mid a k buffer part))
-  read_more None mid new m l p q = tt
-  read_more (Some xs) None new m l p q = absurd p
-  read_more (Some xs) (Some ys) None m l p q = absurd q
-  read_more (Some xs) (Some ys) (Some zs) m l p q =
-      p ∙ ap (λ l. take a buffer ++ l) q ∙ sym (append_assoc (take a buffer) (take m part) zs) ∙ ap (λ l. l ++ zs) (sym (front_grows m l))
+-- a part of k bytes is written behind the first a bytes of a buffer
+module _ (buffer part : List ℕ) (a k n : ℕ) (end : n ≡ a + k) (inside : n ≤ length buffer) (size : length part ≡ k) where
+  pub front_grows : take n (put_mid a k buffer part) ≡ take a buffer ++ part
+  front_grows = take-put_mid a k buffer part n (omega (arith, size, end)) (omega (arith, inside, end))
+
+  pub behind_stays : (first : List ℕ) → drop a buffer ≡ drop a first → drop n (put_mid a k buffer part) ≡ drop n first
+  behind_stays first e =
+      drop-put_mid a k buffer part n (omega (arith, end)) (omega (arith, inside, end)) size
+      ∙ ap (λ m. drop m buffer) end
+      ∙ sym (drop-drop k a buffer)
+      ∙ ap (drop k) e
+      ∙ drop-drop k a first
+      ∙ ap (λ m. drop m first) (sym end)
+
+  pub as_long : length (put_mid a k buffer part) ≡ length buffer
+  as_long = same_len_mid a k buffer part (omega (arith, size, end, inside, length-take k (drop a buffer), length-drop a buffer))

@@ -1,50 +1,52 @@
 -- What a docket with the ten rules makes of a dossier.
-use Rattle.std.specs.Prelude.{◌≡◌, ℕ, ◌<◌, List, length, Some, Ok, Err, Result}
-use Rattle.refusals.specs.declared.Refusal.{Refusal}
+use Rattle.std.specs.Prelude.{◌≡◌, ℕ, ◌<◌, ◌≤◌, List, length, take, drop, Some, Ok, Err, Result}
 use Rattle.refusals.specs.Checks.{first}
 use Rattle.register.specs.Registers.{room}
 use Rattle.claims.specs.declared.Status.TheVariants.{Open, Empty, Inhabited}
 use Rattle.claims.specs.Claiming.{filed, tallied}
 use Rattle.docket.specs.declared.Docket.{Docket}
 use Rattle.docket.specs.Dockets.{Fresh, opening_checks}
+use Rattle.docket.specs.Runs.{Reached, sound, only}
 use Rattle.schemas.specs.House.{house}
 use Rattle.records.specs.Files.{HasRecords}
+use Rattle.intake.specs.declared.Reply.{Reply}
 use Rattle.intake.specs.Taking.{RecordsTaken}
-use Rattle.console.specs.declared.answer.Memory.{Memory}
+use Rattle.console.specs.declared.answer.Outcome.{Outcome}
 use Rattle.console.specs.declared.failure.Failure.{Failure}
-use Rattle.console.specs.declared.failure.Failure.TheVariants.{Capacities, Replies, Io}
-use Rattle.console.specs.declared.report.Report.{Report}
-
--- how many concepts, lines and replies the memory has places for
-abbrev pub concept_places : Memory → ℕ
-concept_places m = length m.concepts.now
-
-abbrev pub line_places : Memory → ℕ
-line_places m = length m.lines.now
-
-abbrev pub reply_places : Memory → ℕ
-reply_places m = length m.replies.now
+use Rattle.console.specs.declared.failure.Failure.TheVariants.{Capacities, Replies, Memory, Io}
 
 -- the open, the empty and the inhabited claims of a docket
 abbrev pub tally_of : Docket → ℕ × ℕ × ℕ
-tally_of d = (tallied Open (filed d.claims), tallied Empty (filed d.claims), tallied Inhabited (filed d.claims))
+tally_of d =
+    let cs = filed d.claims in (tallied Open cs, tallied Empty cs, tallied Inhabited cs)
 
--- A new docket with room for as many concepts and lines as the memory has places for takes the file, record by record, with the
--- ten rules; its replies, and its claims at the end, are in the report.
-pub record Reported (file : List ℕ) (m : Memory) (r : Report) : Type 0 where
+-- A new docket with room for so many concepts and lines takes the file, record by record, with the
+-- ten rules. These are its replies, and this the tally of its claims at the end; its working rows
+-- go from old to new. That docket is reached by the ten rules alone, and so by sound banks, so that
+-- all that holds of such dockets holds of it.
+pub record Replied (file : List ℕ) (concepts lines : ℕ) (old new : List ℕ)
+    (replies : List Reply) (tally : ℕ × ℕ × ℕ) : Type 0 where
   pub opened : Docket
   pub closed : Docket
-  pub rows_after : List ℕ
   pub fresh : Fresh opened
-  pub concept_room : room opened.vocabulary.concepts ≡ concept_places m
-  pub line_room : room opened.book ≡ line_places m
-  pub taken : RecordsTaken house file 0 opened m.rows.now r.replies.now closed rows_after
-  pub tallied : r.tally ≡ tally_of closed
+  pub concept_room : room opened.vocabulary.concepts ≡ concepts
+  pub line_room : room opened.book ≡ lines
+  pub taken : RecordsTaken house file 0 opened old replies closed new
+  pub reached : Reached (only house) closed
+  pub reached_soundly : Reached sound closed
+  pub tallied : tally ≡ tally_of closed
 
--- the docket's report, or why no docket was asked
-abbrev pub Answers : List ℕ → Memory → Result Report Failure → Type 0
-Answers file m (Ok r) = Reported file m r
-Answers file m (Err Capacities) =
-    (x : Refusal) × (first (opening_checks (concept_places m) (line_places m) (concept_places m) (line_places m)) ≡ Some x)
-Answers file m (Err Replies) = (n : ℕ) × HasRecords file n × (reply_places m < n)
-Answers file m (Err (Io e)) = ⊥
+-- The docket's replies stand in the first places for them, and the places behind them are as they
+-- were. Or why no docket was asked: then working rows and places are as they were.
+abbrev pub Answers : List ℕ → (concepts lines : ℕ) → (old new : List ℕ)
+    → (before after : List Reply) → Result Outcome Failure → Type 0
+Answers file concepts lines old new before after (Ok o) =
+    (o.count ≤ length before) × Replied file concepts lines old new (take o.count after) o.tally
+    × (drop o.count after ≡ drop o.count before)
+Answers file concepts lines old new before after (Err Capacities) =
+    ((x : ℕ × ℕ) × (first (opening_checks concepts lines concepts lines) ≡ Some x))
+    × (new ≡ old) × (after ≡ before)
+Answers file concepts lines old new before after (Err Replies) =
+    ((n : ℕ) × HasRecords file n × (length before < n)) × (new ≡ old) × (after ≡ before)
+Answers file concepts lines old new before after (Err Memory) = ⊥
+Answers file concepts lines old new before after (Err (Io e)) = ⊥

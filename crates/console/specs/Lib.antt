@@ -1,4 +1,6 @@
 pub mod Answers
 pub mod Inputs
+pub mod Outputs
+pub mod Processing
+pub mod Programs
 pub mod Reports
-pub mod Runs

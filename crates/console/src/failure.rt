@@ -1,17 +1,20 @@
 ghost use Rattle.std.specs.Prelude.{◌≡◌};
-ghost use Rattle.console.specs.declared.failure.Failure.TheVariants.{Io};
+ghost use Rattle.console.specs.declared.failure.Failure.TheVariants.{Io, Memory};
 ghost use Rattle.console.specs.Reports.{failure_text};
 
+use std::alloc::AllocError;
 use std::error::Error;
 use std::{fmt, io};
 
-/// Why a dossier was not answered.
+/// Why a dossier was not answered, or its answer not printed.
 #[derive(Debug, Drop)]
 pub enum Failure {
     // no docket can have room for so many concepts or lines
     Capacities,
     // there are fewer places for replies than records
     Replies,
+    // no memory was to be had
+    Memory,
     // the input was not read, or the output not written
     Io(io::Error),
 }
@@ -23,12 +26,21 @@ impl fmt::Display for Failure {
         match self {
             Failure::Capacities => write!(f, "no docket of these capacities"),
             Failure::Replies => write!(f, "more records than replies"),
+            Failure::Memory => write!(f, "out of memory"),
             Failure::Io(error) => write!(f, "{error}"),
         }
     }
 }
 
 impl Error for Failure {}
+
+impl From<AllocError> for Failure {
+    ghost from_gives = { λ error failure. failure ≡ Memory };
+
+    fn from(_: AllocError) -> Failure {
+        Failure::Memory
+    }
+}
 
 impl From<io::Error> for Failure {
     ghost from_gives = { λ error failure. failure ≡ Io error };

@@ -5,5 +5,8 @@
 pub mod answer;
 pub mod failure;
 pub mod input;
+pub mod output;
+pub mod print;
+pub mod process;
+pub mod programs;
 pub mod report;
-pub mod run;

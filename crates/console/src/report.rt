@@ -4,7 +4,8 @@ ghost use Rattle.console.specs.Reports.{report_text};
 use intake::Reply;
 use std::fmt;
 
-/// What is printed of a dossier: a line for each reply, with the index of its record from 1, and the tally of the claims.
+/// What is printed of a dossier: a line for each reply, with the index of its record from 1, and
+/// the tally of the claims.
 #[derive(Clone, Copy)]
 pub struct Report<'r> {
     pub replies: &'r [Reply],

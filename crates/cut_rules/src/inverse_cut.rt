@@ -9,8 +9,9 @@ use logic::concept::Concept;
 use logic::role::inverse;
 use schemas::conclusion::nothing;
 
-/// Rule 8: p and q are mates, and s is "only R E", where E is "some R' q" and R' the inverse of R. Conclusions: the label and p;
-/// the label, q and s. Where an element lies in q, R' leads back to it from each neighbour by R.
+/// Rule 8: p and q are mates, and s is "only R E", where E is "some R' q" and R' the inverse of R.
+/// Conclusions: the label and p; the label, q and s. Where an element lies in q, R' leads back to
+/// it from each neighbour by R.
 #[derive(Default, Drop)]
 pub struct InverseCutRule;
 

@@ -9,8 +9,9 @@ use logic::concept::Concept;
 use logic::role::inverse;
 use schemas::conclusion::nothing;
 
-/// Rule 9: p and q are mates, p is "only R C", where R is transitive, and s is "only R' q". Conclusions: the label and p; the label,
-/// q and s. Where an element lies in q, so does each element that R leads from to it.
+/// Rule 9: p and q are mates, p is "only R C", where R is transitive, and s is "only R' q".
+/// Conclusions: the label and p; the label, q and s. Where an element lies in q, so does each
+/// element that R leads from to it.
 #[derive(Default, Drop)]
 pub struct TransitiveCutRule;
 

@@ -1,7 +1,7 @@
 -- A concept as it is filed: a tag and two numbers.
 use Rattle.std.specs.Prelude.{◌≡◌, ℕ, Bool, false, cond, not, List, [], ◌∷◌, Some, None, Ok, Err, Option, Result, ◌==◌, nat_le, nat_lt}
 use Rattle.refusals.specs.declared.Refusal.{Refusal}
-use Rattle.refusals.specs.declared.Refusal.TheVariants.{Range, Absent}
+use Rattle.refusals.specs.Table.{returned}
 use Rattle.refusals.specs.Checks.{when, first}
 use Rattle.logic.specs.declared.concept.Concept.{Concept}
 use Rattle.logic.specs.Concepts.{tag, first_number, second_number}
@@ -28,13 +28,13 @@ part_absent Part count n = nat_le count n
 part_absent other count n = false
 
 -- what reading a concept checks, in this order
-abbrev pub concept_checks : ℕ → ℕ → ℕ → ℕ → List (Option Refusal)
+abbrev pub concept_checks : ℕ → ℕ → ℕ → ℕ → List (Option (ℕ × ℕ))
 concept_checks count t a b =
-    when (nat_lt 7 t) (Range 0)
-    ∷ when (out_of_range (use_of_first t) a) (Range 1)
-    ∷ when (out_of_range (use_of_second t) b) (Range 2)
-    ∷ when (part_absent (use_of_first t) count a) (Absent 1)
-    ∷ when (part_absent (use_of_second t) count b) (Absent 2) ∷ []
+    when (nat_lt 7 t) (3, 0)
+    ∷ when (out_of_range (use_of_first t) a) (3, 1)
+    ∷ when (out_of_range (use_of_second t) b) (3, 2)
+    ∷ when (part_absent (use_of_first t) count a) (4, 1)
+    ∷ when (part_absent (use_of_second t) count b) (4, 2) ∷ []
 
 -- concept k is written with tag t and the numbers a and b
 pub record Written (t a b : ℕ) (k : Concept) : Type 0 where
@@ -45,4 +45,4 @@ pub record Written (t a b : ℕ) (k : Concept) : Type 0 where
 -- the concept that is written, or the first check that refuses
 abbrev pub Read : ℕ → ℕ → ℕ → ℕ → Result Concept Refusal → Type 0
 Read count t a b (Ok k) = (first (concept_checks count t a b) ≡ None) × Written t a b k
-Read count t a b (Err f) = first (concept_checks count t a b) ≡ Some f
+Read count t a b (Err f) = first (concept_checks count t a b) ≡ Some (returned f)

@@ -3,6 +3,6 @@ pub mod Fields
 pub mod Tags
 pub mod Dockets
 pub mod Calls
-pub mod Runs
 pub mod Questions
 pub mod Conclusions
+pub mod Runs

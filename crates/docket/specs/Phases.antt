@@ -9,7 +9,8 @@ abbrev pub is_unsealed : Phase → Bool
 is_unsealed Open = true
 is_unsealed Sealed = false
 
--- concepts and pairs are taken in either phase; axioms of either list and the seal only before sealing, lines, claims and closings only after it
+-- concepts and pairs are taken in either phase; axioms of either list and the seal only before
+-- sealing, lines, claims and closings only after it
 abbrev pub admits : Phase → Subject → Bool
 admits phase RoleAxiom = is_unsealed phase
 admits phase Concept = true

@@ -1,14 +1,14 @@
 ghost use Rattle.std.specs.Prelude.{◌≡◌};
-ghost use Rattle.file_bytes.specs.Bytes.{numbers};
 ghost use Rattle.claims.specs.Claiming.{filed, tallied};
 ghost use Rattle.claims.specs.declared.Status.TheVariants.{Open, Empty, Inhabited};
+ghost use Rattle.docket.specs.Runs.{StaysReached};
 ghost use Rattle.docket.specs.Calls.{Acts, claim, close_empty, close_inhabited};
 
 use crate::phase::Subject;
 use crate::{Answer, Docket};
-use book::members::{check_rising, check_standing};
+use book::members::{check_rising, check_standing, check_whole};
 use claims::{MOST_CLAIMS, Status};
-use labels::members::row_of;
+use labels::members::read;
 use labels::rows::first_outside;
 use models::{Model, judge};
 use refusals::Refusal;
@@ -16,22 +16,26 @@ use refusals::Refusal;
 impl Docket<'_> {
     /// Files a claim of the label with these members.
     pub fn file_claim(&mut self, members: &[u8]) -> Answer
-        ensures { Acts (claim (numbers members.now)) self.old result self.new }
+        ensures acts { Acts (claim members.now) self.old result self.new }
+        ensures reached { StaysReached (claim members.now) self.old result self.new }
     {
         self.enter(Subject::Claim)?;
-        check_standing(members, self.vocabulary.len(), 0)?;
+        check_whole(members, 0)?;
+        let reading = read(members, self.vocabulary.len());
+        check_standing(reading.absent, 0)?;
         if self.claims.is_full() {
             return Err(Refusal::Full(MOST_CLAIMS));
         }
-        check_rising(members, 0)?;
+        check_rising(reading.falling, 0)?;
         self.claims
-            .add(row_of(members))
+            .add(reading.row)
             .ok_or(Refusal::Full(MOST_CLAIMS))
     }
 
     /// Closes a claim as empty by a standing line whose label lies within its own.
     pub fn close_empty(&mut self, claim: u16, line: u16) -> Answer
-        ensures { Acts (close_empty claim line) self.old result self.new }
+        ensures acts { Acts (close_empty claim line) self.old result self.new }
+        ensures reached { StaysReached (close_empty claim line) self.old result self.new }
     {
         self.enter(Subject::Closing)?;
         let claimed = self.claims.get(claim).ok_or(Refusal::Absent(0))?;
@@ -39,7 +43,7 @@ impl Docket<'_> {
         if !claimed.is_open() {
             return Err(Refusal::Closed(claim));
         }
-        // what is found is the refusal, and `map_or(Ok(()), ..)?` is no plainer
+        // what is found is the refusal
         if let Some(c) = first_outside(&cited.label, &claimed.label) {
             return Err(Refusal::Outside(c));
         }
@@ -49,10 +53,11 @@ impl Docket<'_> {
             .ok_or(Refusal::Absent(0))
     }
 
-    /// Closes a claim as inhabited by a model that meets the axioms and whose point lies in all of its label. The rows are
-    /// working memory, four words for each standing concept.
+    /// Closes a claim as inhabited by a model that meets the axioms and whose point lies in all of
+    /// its label. The rows are working memory, four words for each standing concept.
     pub fn close_inhabited(&mut self, claim: u16, model: &Model, rows: &mut [u64]) -> Answer
-        ensures { Acts (close_inhabited claim model.now rows.old rows.new) self.old result self.new }
+        ensures acts { Acts (close_inhabited claim model.now rows.old rows.new) self.old result self.new }
+        ensures reached { StaysReached (close_inhabited claim model.now rows.old rows.new) self.old result self.new }
     {
         self.enter(Subject::Closing)?;
         if rows.len() / 4 < self.vocabulary.len() {

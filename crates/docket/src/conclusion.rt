@@ -2,14 +2,15 @@ ghost use Rattle.std.specs.Prelude.{◌≡◌, ◌≤◌, ◌++◌, length, drop
 ghost use Rattle.docket.specs.Conclusions.{Inquired, Concluded};
 
 use crate::Docket;
-use book::members::{check_principals, check_rising, check_standing};
+use book::members::{check_principals, check_rising, check_standing, check_whole};
 use calculus::bank::Bank;
 use calculus::premise::Premise;
 use calculus::rule::Principals;
-use labels::members::row_of;
+use labels::members::read;
 use refusals::Refusal;
 
-/// Which conclusion is asked for: of a rule at its principals, the one with this index, for the label with these members.
+/// Which conclusion is asked for: of a rule at its principals, the one with this index, for the
+/// label with these members.
 #[derive(Clone, Copy)]
 pub struct Inquiry<'m> {
     pub rule: u16,
@@ -41,6 +42,7 @@ impl Docket<'_> {
         if asked.index >= bank.cites(asked.rule) as u16 {
             return Err(Refusal::Range(4));
         }
+        check_whole(asked.members, 5)?;
         if words < WORDS {
             return Err(Refusal::Range(5 + asked.members.len() / 2));
         }
@@ -49,7 +51,8 @@ impl Docket<'_> {
         Ok(asked.index as u8)
     }
 
-    /// Writes a conclusion into the first sixteen words of the memory: concept c is bit c mod 64 of word c div 64.
+    /// Writes a conclusion into the first sixteen words of the memory: concept c is bit c mod 64 of
+    /// word c div 64.
     pub fn conclusion<B: Bank>(
         &self,
         bank: &B,
@@ -59,9 +62,10 @@ impl Docket<'_> {
         ensures { Concluded (B.Bank.calculus bank.now) self.now asked.now memory.old result memory.new }
     {
         let index = self.check_inquiry(bank, asked, memory.len())?;
-        check_standing(asked.members, self.vocabulary.len(), 5)?;
-        check_rising(asked.members, 5)?;
-        let label = row_of(asked.members);
+        let reading = read(asked.members, self.vocabulary.len());
+        check_standing(reading.absent, 5)?;
+        check_rising(reading.falling, 5)?;
+        let label = reading.row;
         let at = Premise {
             vocabulary: &self.vocabulary,
             on: asked.on,

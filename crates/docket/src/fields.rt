@@ -1,6 +1,5 @@
 ghost use Rattle.std.specs.Prelude.{[], ◌∷◌, nat_le};
 ghost use Rattle.refusals.specs.Checks.{when, Passed};
-ghost use Rattle.refusals.specs.declared.Refusal.TheVariants.{Range, Absent};
 ghost use Rattle.docket.specs.Fields.{out_of_range, part_absent, Read};
 
 use crate::tag::Tag;
@@ -21,7 +20,7 @@ pub(crate) enum Use {
 impl Use {
     // Whether the number at this position is in its range, whatever stands.
     fn check_range(self, number: u16, position: u8) -> Result<(), Refusal>
-        ensures { Passed (when (out_of_range self number) (Range position) ∷ []) result }
+        ensures { Passed (when (out_of_range self number) (3, position) ∷ []) result }
     {
         let fits = match self {
             Use::Unused => number == 0,
@@ -36,9 +35,10 @@ impl Use {
         }
     }
 
-    // Whether the number at this position, if it names a concept, names one of the `count` that stand.
+    // Whether the number at this position, if it names a concept, names one of the `count` that
+    // stand.
     fn check_stands(self, number: u16, count: usize, position: u8) -> Result<(), Refusal>
-        ensures { Passed (when (part_absent self count number) (Absent position) ∷ []) result }
+        ensures { Passed (when (part_absent self count number) (4, position) ∷ []) result }
     {
         match self {
             Use::Concept => check_stands(number, count, position),
@@ -49,7 +49,7 @@ impl Use {
 
 // Whether this is a role; its number has this position in its call.
 pub(crate) fn check_role(role: u16, position: u8) -> Result<(), Refusal>
-    ensures { Passed (when (nat_le 128 role) (Range position) ∷ []) result }
+    ensures { Passed (when (nat_le 128 role) (3, position) ∷ []) result }
 {
     Use::Role.check_range(role, position)
 }

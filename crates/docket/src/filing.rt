@@ -1,6 +1,6 @@
 ghost use Rattle.docket.specs.Calls.{Acts, inclusion, transitivity, concept, pair, «axiom», seal, line};
 ghost use Rattle.docket.specs.Questions.{PairingIsRight, MeansTheSame};
-ghost use Rattle.docket.specs.Runs.{Reached};
+ghost use Rattle.docket.specs.Runs.{StaysReached};
 
 use crate::fields::{check_role, read_concept};
 use crate::phase::Subject;
@@ -15,7 +15,8 @@ use vocabulary::MOST_AXIOMS;
 impl Docket<'_> {
     /// Files that role `r` is below role `s`.
     pub fn file_inclusion(&mut self, r: u16, s: u16) -> Answer
-        ensures { Acts (inclusion r s) self.old result self.new }
+        ensures acts { Acts (inclusion r s) self.old result self.new }
+        ensures reached { StaysReached (inclusion r s) self.old result self.new }
     {
         self.enter(Subject::RoleAxiom)?;
         check_role(r, 0)?;
@@ -27,7 +28,8 @@ impl Docket<'_> {
 
     /// Files that role `r` is transitive.
     pub fn file_transitivity(&mut self, r: u16) -> Answer
-        ensures { Acts (transitivity r) self.old result self.new }
+        ensures acts { Acts (transitivity r) self.old result self.new }
+        ensures reached { StaysReached (transitivity r) self.old result self.new }
     {
         self.enter(Subject::RoleAxiom)?;
         check_role(r, 0)?;
@@ -39,25 +41,29 @@ impl Docket<'_> {
     /// Files the concept that a tag and two numbers write.
     pub fn file_concept(&mut self, tag: u16, a: u16, b: u16) -> Answer
         ensures acts { Acts (concept tag a b) self.old result self.new }
-        ensures stays { Reached self.old → MeansTheSame self.old.vocabulary self.new.vocabulary }
+        ensures reached { StaysReached (concept tag a b) self.old result self.new }
+        ensures stays { MeansTheSame self.old.vocabulary self.new.vocabulary }
     {
         self.enter(Subject::Concept)?;
         let k = read_concept(self.vocabulary.len(), tag, a, b)?;
         let room = self.vocabulary.room();
-        self.vocabulary
-            .file_concept(k)
-            .map_err(|_| Refusal::Full(room))
+        match self.vocabulary.file_concept(k) {
+            Ok(number) => Ok(number),
+            Err(_) => Err(Refusal::Full(room)),
+        }
     }
 
     /// Pairs two concepts as mates.
     pub fn pair(&mut self, c: u16, d: u16) -> Answer
         ensures acts { Acts (pair c d) self.old result self.new }
+        ensures reached { StaysReached (pair c d) self.old result self.new }
         ensures right { PairingIsRight self.old c d result }
     {
         self.enter(Subject::Pair)?;
         check_stands(c, self.vocabulary.len(), 0)?;
         check_stands(d, self.vocabulary.len(), 1)?;
-        // by a match: the clause on what pairing means is proved arm by arm; with `ok_or` it was not
+        // by a match: the clause on what pairing means is proved arm by arm; with `ok_or` it was
+        // not
         match self.vocabulary.pair(c, d) {
             Some(()) => Ok(0),
             None => Err(Refusal::Unpaired),
@@ -66,7 +72,8 @@ impl Docket<'_> {
 
     /// Files a concept as one that holds of every element.
     pub fn file_axiom(&mut self, c: u16) -> Answer
-        ensures { Acts («axiom» c) self.old result self.new }
+        ensures acts { Acts («axiom» c) self.old result self.new }
+        ensures reached { StaysReached («axiom» c) self.old result self.new }
     {
         self.enter(Subject::Axiom)?;
         check_stands(c, self.vocabulary.len(), 0)?;
@@ -77,7 +84,8 @@ impl Docket<'_> {
 
     /// Ends the filing of axioms.
     pub fn seal(&mut self) -> Answer
-        ensures { Acts seal self.old result self.new }
+        ensures acts { Acts seal self.old result self.new }
+        ensures reached { StaysReached seal self.old result self.new }
     {
         self.enter(Subject::Seal)?;
         Ok(0)
@@ -85,7 +93,8 @@ impl Docket<'_> {
 
     /// Files a line, if the rules of the bank license it.
     pub fn file_line<B: Bank>(&mut self, bank: &B, draft: &Draft) -> Answer
-        ensures { Acts (line (B.Bank.calculus bank.now) draft.now) self.old result self.new }
+        ensures acts { Acts (line (B.Bank.calculus bank.now) draft.now) self.old result self.new }
+        ensures reached { StaysReached (line (B.Bank.calculus bank.now) draft.now) self.old result self.new }
     {
         self.enter(Subject::Line)?;
         let line = check(
@@ -95,8 +104,7 @@ impl Docket<'_> {
             self.book.room(),
             draft,
         )?;
-        // by a match: a line that was checked always fits, and the arm of the error is where that is shown; with `map_err` it was not
-        // proved
+        // by a match: a line that was checked always fits, as the arm of the error shows
         match self.book.push(line) {
             Ok(number) => Ok(number),
             Err(_) => Err(Refusal::Full(self.book.room())),

@@ -25,7 +25,8 @@ pub const MOST_LINES: usize = 4096;
 /// What a call answers: the new entry's number (0 where there is none), or a refusal.
 pub type Answer = Result<usize, Refusal>;
 
-/// A docket: the vocabulary, the lines and the claims that stand, over memory that the host supplied.
+/// A docket: the vocabulary, the lines and the claims that stand, over memory that the host
+/// supplied.
 #[derive(Drop)]
 pub struct Docket<'a> {
     phase: Phase,

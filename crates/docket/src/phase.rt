@@ -24,7 +24,8 @@ pub enum Subject {
 }
 
 impl Docket<'_> {
-    // Whether a call about this is taken in the docket's phase. A seal that is taken seals the docket.
+    // Whether a call about this is taken in the docket's phase. A seal that is taken seals the
+    // docket.
     pub(crate) fn enter(&mut self, subject: Subject) -> Result<(), Refusal>
         ensures { Entered self.old subject result self.new }
     {

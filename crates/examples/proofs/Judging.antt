@@ -40,14 +40,19 @@ module _ (m : Model) (is_formed : WellFormed m) (cs : List Concept) (rows : List
   abbrev pub is_evaluated : ℕ → Bool
   is_evaluated c = agree_below (contains rows c) (computed m rows (get_or cs c Top)) 256
 
-  hold : agree_below is_evaluated (λ c. true) (length cs) ≡ true → Ordered parts cs → (n : ℕ) → n ≤ length cs → RowsHold (described m) cs rows n
+  hold : agree_below is_evaluated (λ c. true) (length cs) ≡ true → Ordered parts cs → (n : ℕ) → n ≤ length cs
+      → RowsHold (described m) cs rows n
   hold h o zero l = λ c e lc le. absurd (omega arith)
-  hold h o (suc n) l = subst (RowsHold (described m) cs rows) (let e : n + 1 ≡ suc n = omega arith in e) (row_more m is_formed cs rows rows n o l (hold h o n (omega arith)) (record {
-    elements = λ e le. agree_below_at (contains rows n) (computed m rows (get_or cs n Top)) 256 e (agree_below_at is_evaluated (λ c. true) (length cs) n h l) le;
-    others = λ i d. refl;
-  }))
+  hold h o (suc n) l =
+      let next : n + 1 ≡ suc n = omega arith in
+      let here = agree_below_at is_evaluated (λ c. true) (length cs) n h l in
+      subst (RowsHold (described m) cs rows) next (row_more m is_formed cs rows rows n o l (hold h o n (omega arith)) (record {
+        elements = λ e le. agree_below_at (contains rows n) (computed m rows (get_or cs n Top)) 256 e here le;
+        others = λ i d. refl;
+      }))
 
-  pub evaluated : (old : List ℕ) → length rows ≤ 4 * length cs → length old ≤ 4 * length cs → agree_below is_evaluated (λ c. true) (length cs) ≡ true
+  pub evaluated : (old : List ℕ) → length rows ≤ 4 * length cs → length old ≤ 4 * length cs
+      → agree_below is_evaluated (λ c. true) (length cs) ≡ true
       → Ordered parts cs → Evaluated (described m) cs old rows
   evaluated old few few-old h o = record {
     rows_hold = hold h o (length cs) (omega arith);
@@ -55,7 +60,8 @@ module _ (m : Model) (is_formed : WellFormed m) (cs : List Concept) (rows : List
   }
 
   -- and so the rows say which elements lie in the concepts
-  pub lies_as_evaluated : agree_below is_evaluated (λ c. true) (length cs) ≡ true → Ordered parts cs → (c e : ℕ) → c < length cs → e < m.size
+  pub lies_as_evaluated : agree_below is_evaluated (λ c. true) (length cs) ≡ true → Ordered parts cs
+      → (c e : ℕ) → c < length cs → e < m.size
       → T (contains rows c e) ↔ LiesIn (described m) cs c e
   lies_as_evaluated h o c e lc le =
       let few = is_formed.sized.few_elements in

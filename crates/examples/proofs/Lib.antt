@@ -1,4 +1,3 @@
-mod Tests
 mod Meeting
 mod Passing
 mod Judging
@@ -11,3 +10,4 @@ mod Steps
 mod Drafting
 mod Lying
 mod Runs
+mod Taking

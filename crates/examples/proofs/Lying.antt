@@ -12,10 +12,16 @@ use Rattle.examples.proofs.Judging.{lies_as_evaluated}
 use Rattle.examples.proofs.Models.{marked_formed}
 use Rattle.examples.proofs.Reaching.{six_kept}
 
-lies_as_said : (c e : ℕ) (said : Bool) → c < length six_concepts → e < 2 → T (agrees (contains rows_with_mark c e) said) → Is (LiesIn (described (model 2 one_mark one_edge)) six_concepts c e) said
+abbrev Lies : ℕ → ℕ → Type 0
+Lies c e = LiesIn (described (model 2 one_mark one_edge)) six_concepts c e
+
+lies_as_said : (c e : ℕ) (said : Bool) → c < length six_concepts → e < 2 → T (agrees (contains rows_with_mark c e) said)
+    → Is (Lies c e) said
 unfolding some_below
-lies_as_said c e said lc le h = agreed (LiesIn (described (model 2 one_mark one_edge)) six_concepts c e) (contains rows_with_mark c e) said
-    (lies_as_evaluated (model 2 one_mark one_edge) marked_formed six_concepts rows_with_mark refl six_kept.concepts_kept.ordered c e lc le) h
+lies_as_said c e said lc le h =
+    let m = model 2 one_mark one_edge in
+    let evaluated = lies_as_evaluated m marked_formed six_concepts rows_with_mark refl six_kept.ordered c e lc le in
+    agreed (Lies c e) (contains rows_with_mark c e) said evaluated h
 
 pub lyings_hold : AllHold lying_cases
 lyings_hold = (

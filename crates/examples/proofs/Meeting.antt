@@ -45,13 +45,21 @@ module _ (I : Interpretation) where
   unbroken (Inclusion r s) f = λ x y hx hy t.
       ⊎_elim (λ h. h) (λ h. absurd (f (found _ x hx (found _ y hy (and_in _ _ t h))))) (either_way (leads I s x y))
   unbroken (Transitivity r) f = λ x y z hx hy hz t u.
-      ⊎_elim (λ h. h) (λ h. absurd (f (found _ x hx (found _ y hy (and_in _ _ t (found _ z hz (and_in _ _ u h))))))) (either_way (leads I r x z))
+      ⊎_elim
+      (λ h. h)
+      (λ h. absurd (f (found _ x hx (found _ y hy (and_in _ _ t (found _ z hz (and_in _ _ u h)))))))
+      (either_way (leads I r x z))
 
   pub met_decided : (axioms : List RoleAxiom) → T (is_met axioms) ↔ MeetsRoleAxioms I axioms
   met_decided [] = (λ t a m. absurd (Memᴰ.not-nil m), λ h. tt)
   met_decided (a ∷ axioms) = (
     λ t b m.
         let p = and_out _ _ t in
-        ⊎_elim (λ e. subst (MeetsRoleAxiom I) (sym e) (unbroken a (T_not (breaks a) p.0))) ((met_decided axioms).0 p.1 b) (Memᴰ.cases_cons m),
-    λ h. and_in _ _ (not_T (breaks a) (λ t. broken a t (h a (Memᴰ.head refl)))) ((met_decided axioms).1 (λ b m. h b (Memᴰ.tail m))),
+        ⊎_elim
+        (λ e. subst (MeetsRoleAxiom I) (sym e) (unbroken a (T_not (breaks a) p.0)))
+        ((met_decided axioms).0 p.1 b)
+        (Memᴰ.cases_cons m),
+    λ h. and_in _ _
+        (not_T (breaks a) (λ t. broken a t (h a (Memᴰ.head refl))))
+        ((met_decided axioms).1 (λ b m. h b (Memᴰ.tail m))),
   )

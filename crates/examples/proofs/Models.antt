@@ -13,28 +13,66 @@ use Rattle.examples.proofs.Judging.{formed}
 -- the models are well formed
 
 pub no_edge_formed : WellFormed (model 2 [] [])
-no_edge_formed = formed 2 [] [] (omega arith, omega arith) (omega arith, refl) (refl, omega arith) (λ i l. absurd (omega arith)) (λ i l. absurd (omega arith))
+no_edge_formed = formed 2 [] [] (omega arith, omega arith) (omega arith, refl) (refl, omega arith)
+    (λ i l. absurd (omega arith)) (λ i l. absurd (omega arith))
 
 one_edge_good : (i : ℕ) → i < edges_in (bytes one_edge) → GoodEdge (bytes one_edge) 2 i
-one_edge_good = below_more _ 0 (below_none _) (record { role_in_range = omega arith; from_in_range = omega arith; to_in_range = omega arith; edge_rises = λ h. absurd (omega arith) })
+one_edge_good = below_more _ 0 (below_none _) (record {
+  role_in_range = omega arith;
+  from_in_range = omega arith;
+  to_in_range = omega arith;
+  edge_rises = λ h. absurd (omega arith);
+})
 
 pub one_edge_formed : WellFormed (model 2 [] one_edge)
-one_edge_formed = formed 2 [] one_edge (omega arith, omega arith) (omega arith, refl) (refl, omega arith) (λ i l. absurd (omega arith)) one_edge_good
+one_edge_formed = formed 2 [] one_edge (omega arith, omega arith) (omega arith, refl) (refl, omega arith)
+    (λ i l. absurd (omega arith)) one_edge_good
 
 pub marked_formed : WellFormed (model 2 one_mark one_edge)
 marked_formed = formed 2 one_mark one_edge (omega arith, omega arith) (omega arith, refl) (refl, omega arith)
-    (below_more _ 0 (below_none _) (record { element_in_range = omega arith; name_in_range = omega arith; mark_rises = λ h. absurd (omega arith) })) one_edge_good
+    (below_more _ 0 (below_none _) (record {
+      element_in_range = omega arith;
+      name_in_range = omega arith;
+      mark_rises = λ h. absurd (omega arith);
+    })) one_edge_good
 
 pub chain_formed : WellFormed (model 3 [] chain)
-chain_formed = formed 3 [] chain (omega arith, omega arith) (omega arith, refl) (refl, omega arith) (λ i l. absurd (omega arith)) (below_more _ 1 (below_more _ 0 (below_none _)
-    (record { role_in_range = omega arith; from_in_range = omega arith; to_in_range = omega arith; edge_rises = λ h. absurd (omega arith) }))
-    (record { role_in_range = omega arith; from_in_range = omega arith; to_in_range = omega arith; edge_rises = λ h. inr (refl, inl (omega arith)) }))
+chain_formed = formed 3 [] chain (omega arith, omega arith) (omega arith, refl) (refl, omega arith)
+    (λ i l. absurd (omega arith)) (below_more _ 1 (below_more _ 0 (below_none _)
+    (record {
+      role_in_range = omega arith;
+      from_in_range = omega arith;
+      to_in_range = omega arith;
+      edge_rises = λ h. absurd (omega arith);
+    }))
+    (record {
+      role_in_range = omega arith;
+      from_in_range = omega arith;
+      to_in_range = omega arith;
+      edge_rises = λ h. inr (refl, inl (omega arith));
+    }))
 
 pub closed_chain_formed : WellFormed (model 3 [] closed_chain)
-closed_chain_formed = formed 3 [] closed_chain (omega arith, omega arith) (omega arith, refl) (refl, omega arith) (λ i l. absurd (omega arith)) (below_more _ 2 (below_more _ 1 (below_more _ 0 (below_none _)
-    (record { role_in_range = omega arith; from_in_range = omega arith; to_in_range = omega arith; edge_rises = λ h. absurd (omega arith) }))
-    (record { role_in_range = omega arith; from_in_range = omega arith; to_in_range = omega arith; edge_rises = λ h. inr (refl, inr (refl, omega arith)) }))
-    (record { role_in_range = omega arith; from_in_range = omega arith; to_in_range = omega arith; edge_rises = λ h. inr (refl, inl (omega arith)) }))
+closed_chain_formed = formed 3 [] closed_chain (omega arith, omega arith) (omega arith, refl) (refl, omega arith)
+    (λ i l. absurd (omega arith)) (below_more _ 2 (below_more _ 1 (below_more _ 0 (below_none _)
+    (record {
+      role_in_range = omega arith;
+      from_in_range = omega arith;
+      to_in_range = omega arith;
+      edge_rises = λ h. absurd (omega arith);
+    }))
+    (record {
+      role_in_range = omega arith;
+      from_in_range = omega arith;
+      to_in_range = omega arith;
+      edge_rises = λ h. inr (refl, inr (refl, omega arith));
+    }))
+    (record {
+      role_in_range = omega arith;
+      from_in_range = omega arith;
+      to_in_range = omega arith;
+      edge_rises = λ h. inr (refl, inl (omega arith));
+    }))
 
 -- the chain is not transitive, and with its shortcut it is
 

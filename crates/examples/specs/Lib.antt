@@ -1,7 +1,9 @@
 pub mod Cases
+pub mod Ordering
 pub mod SmallDocket
 pub mod RoleCases
 pub mod StepCases
 pub mod RunCases
 pub mod ModelCases
 pub mod Table
+pub mod SmallTree

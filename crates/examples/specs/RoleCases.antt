@@ -18,7 +18,8 @@ two_steps = Inclusion 124 126 ∷ Inclusion 126 2 ∷ []
 
 abbrev pub role_cases : List Case
 role_cases =
-    -- the inverses are included too, and a role in its own inverse is not; nor does an inclusion turn round
+    -- the inverses are included too, and a role in its own inverse is not; nor does an inclusion
+    -- turn round
     below last_in_first 126 0 true
     ∷ below last_in_first 127 1 true
     ∷ below last_in_first 127 0 false

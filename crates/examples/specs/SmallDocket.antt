@@ -1,15 +1,14 @@
 -- Small dockets, and what is filed with them.
-use Rattle.std.specs.Prelude.{ℕ, ◌-◌, ◌/◌, ◌%◌, List, [], ◌∷◌, ◌++◌, length, replicate, map, Some, None, Option}
+use Rattle.std.specs.Prelude.{ℕ, ◌-◌, ◌/◌, List, [], ◌∷◌, ◌++◌, length, replicate, Some, None}
+use Rattle.std.specs.Prelude.{Option}
 use Rattle.std.specs.Borrow.{Bor, MutBor}
-use Rattle.std.specs.List.{range_with_len}
 use Rattle.register.specs.declared.store.Register.{Register}
 use Rattle.logic.specs.declared.concept.Concept.{Concept}
 use Rattle.logic.specs.declared.concept.Concept.TheVariants.{Top, Name, NotName, Only, Exists}
+use Rattle.logic.specs.declared.role.RoleAxiom.{RoleAxiom}
 use Rattle.logic.specs.declared.role.RoleAxiom.TheVariants.{Transitivity}
-use Rattle.closure.specs.Closure.{own_word}
 use Rattle.labels.specs.Labels.{row}
 use Rattle.vocabulary.specs.declared.Vocabulary.{Vocabulary}
-use Rattle.vocabulary.specs.declared.roles.Roles.{Roles}
 use Rattle.models.specs.declared.Model.{Model}
 use Rattle.claims.specs.declared.Status.{Status}
 use Rattle.claims.specs.declared.Claim.{Claim}
@@ -20,6 +19,7 @@ use Rattle.book.specs.Lines.{blank_line}
 use Rattle.book.specs.Drafts.{line_of}
 use Rattle.docket.specs.declared.Docket.{Docket}
 use Rattle.docket.specs.declared.phase.Phase.{Phase}
+use Rattle.examples.specs.Ordering.{passed, passed_ordered}
 
 -- numbers below 256, each in two bytes
 abbrev pub bytes : List ℕ → List ℕ
@@ -33,38 +33,48 @@ handed ms = record { ref_ptr = (0, 0); now = bytes ms }
 abbrev pub lent : {X : Type 0} → List X → MutBor (List X)
 lent xs = record { ref_ptr = (0, 0); ghost_name = 0; now = xs }
 
--- a register with these entries, and room for n
-abbrev pub register : {X : Type 0} → ℕ → X → List X → Register X
-register n free xs = record { slots = lent (xs ++ replicate (n - length xs) free); used = length xs; capacity = n }
+-- a register with room for n, and with these entries, if each refers to earlier ones alone; else
+-- with none
+abbrev pub register : {X : Type 0} {g : _} → ℕ → X → List X → Register X g
+register {X} {g} n free xs =
+    let taken = passed g.references xs in record {
+      slots = lent (taken ++ replicate (n - length taken) free);
+      used = length taken;
+      capacity = n;
+      ordered = passed_ordered g.references xs (replicate (n - length taken) free);
+    }
 
--- the table of the roles, where each is below itself alone
-unfoldable pub own_words : List ℕ
-own_words = map (λ i. own_word (i / 2) (i % 2)) (range_with_len 0 256)
+abbrev pub no_role_axiom : List RoleAxiom
+no_role_axiom = []
 
-abbrev pub no_role_axiom : Roles
-no_role_axiom = record { axioms = []; below = own_words; transitive = 0 }
-
-abbrev pub role_0_transitive : Roles
-role_0_transitive = record { axioms = Transitivity 0 ∷ []; below = own_words; transitive = 1 }
+abbrev pub role_0_transitive : List RoleAxiom
+role_0_transitive = Transitivity 0 ∷ []
 
 -- the concepts from five on have no mate
 unfoldable pub no_mates : List (Option ℕ)
 no_mates = replicate 1019 None
 
--- a vocabulary without axioms, with these role axioms, these concepts, and these mates of the first five
-abbrev pub vocabulary : Roles → List Concept → List (Option ℕ) → Vocabulary
+-- a vocabulary without axioms, with these role axioms, these concepts, and these mates of the first
+-- five
+abbrev pub vocabulary : List RoleAxiom → List Concept → List (Option ℕ) → Vocabulary
 vocabulary roles cs ms = record {
   roles = roles;
   concepts = register 8 Top cs;
   mates = record { of = ms ++ no_mates };
-  axioms = record { list = []; row = replicate 16 0 };
+  axioms = [];
 }
 
 -- a docket with room for five lines
 abbrev pub docket : Phase → Vocabulary → List Line → List Claim → Docket
-docket phase v ls cs = record { phase = phase; vocabulary = v; book = register 5 blank_line ls; claims = record { list = cs } }
+docket phase v ls cs = record {
+  phase = phase;
+  vocabulary = v;
+  book = register 5 blank_line ls;
+  claims = record { list = cs };
+}
 
--- A, "not A", "only S not A" and "some R" of that, "some S A" and "only R" of that, where role R is 0 and role S its inverse
+-- A, "not A", "only S not A" and "some R" of that, "some S A" and "only R" of that, where role R is
+-- 0 and role S its inverse
 abbrev pub six_concepts : List Concept
 six_concepts = Name 0 ∷ NotName 0 ∷ Only 1 1 ∷ Exists 0 2 ∷ Exists 1 0 ∷ Only 0 4 ∷ []
 
@@ -91,7 +101,13 @@ one_transitive = vocabulary role_0_transitive (Top ∷ []) no_pair
 
 -- the drafts: a rule, the concepts p, q and s, the lines that are cited, and a label
 abbrev pub draft : (rule p q s m n : ℕ) → List ℕ → Draft
-draft rule p q s m n ms = record { rule = rule; on = record { p = p; q = q; s = s }; m = m; n = n; members = handed ms }
+draft rule p q s m n ms = record {
+  rule = rule;
+  on = record { p = p; q = q; s = s };
+  m = m;
+  n = n;
+  members = handed ms;
+}
 
 -- the mates 0 and 1 clash, and the mates 2 and 4
 abbrev pub clash : Draft
@@ -109,7 +125,12 @@ abbrev pub cut_with : ℕ → Draft
 cut_with s = draft 8 1 0 s 0 2 (0 ∷ 3 ∷ [])
 
 abbrev pub four_lines : List Line
-four_lines = line_of house clash ∷ line_of house other_clash ∷ line_of house neighbour ∷ line_of house (cut_with 5) ∷ []
+four_lines =
+    line_of house clash
+    ∷ line_of house other_clash
+    ∷ line_of house neighbour
+    ∷ line_of house (cut_with 5)
+    ∷ []
 
 -- a claim of the label with these members
 abbrev pub claim_of : List ℕ → Status → Claim
@@ -119,10 +140,16 @@ claim_of ms s = record { label = row ms; status = s }
 abbrev pub three_claims : (first second third : Status) → List Claim
 three_claims x y z = claim_of (0 ∷ 3 ∷ []) x ∷ claim_of (0 ∷ []) y ∷ claim_of (3 ∷ []) z ∷ []
 
--- a model with this many elements, the point 0, these marks, each an element and a name, and these edges, each a role name
--- and its ends
+-- a model with this many elements, the point 0, these marks, each an element and a name, and these
+-- edges, each a role name and its ends
 abbrev pub model : ℕ → (marks edges : List ℕ) → Model
-model n ms es = record { size = n; point = 0; mark_count = length ms / 2; marks = handed ms; edges = handed es }
+model n ms es = record {
+  size = n;
+  point = 0;
+  mark_count = length ms / 2;
+  marks = handed ms;
+  edges = handed es;
+}
 
 -- element 0 has the name of A
 abbrev pub one_mark : List ℕ
@@ -143,7 +170,8 @@ abbrev pub rows : List ℕ → List ℕ
 rows [] = []
 rows (w ∷ ws) = w ∷ 0 ∷ 0 ∷ 0 ∷ rows ws
 
--- the sets of the six concepts: none yet, and those in a model of two elements without an edge, with one, and with a mark too
+-- the sets of the six concepts: none yet, and those in a model of two elements without an edge,
+-- with one, and with a mark too
 abbrev pub rows_at_first : List ℕ
 rows_at_first = rows (0 ∷ 0 ∷ 0 ∷ 0 ∷ 0 ∷ 0 ∷ [])
 

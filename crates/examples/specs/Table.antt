@@ -7,4 +7,6 @@ use Rattle.examples.specs.RunCases.{run_cases, draft_cases, answer_cases, refusa
 use Rattle.examples.specs.ModelCases.{meeting_cases, lying_cases}
 
 abbrev pub cases : List Case
-cases = role_cases ++ (step_cases ++ (run_cases ++ (draft_cases ++ (answer_cases ++ (refusal_cases ++ (meeting_cases ++ lying_cases))))))
+cases =
+    role_cases ++ (step_cases ++ (run_cases ++ (draft_cases ++ (answer_cases
+    ++ (refusal_cases ++ (meeting_cases ++ lying_cases))))))

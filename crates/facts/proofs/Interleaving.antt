@@ -2,7 +2,8 @@
 use Rattle.std.proofs.Common.{◌≡◌, ℕ, ◌+◌, ◌≤◌, List, [], ◌∷◌, ◌++◌, length, refl, ap, ◌∙◌, subst, arith}
 use Rattle.std.proofs.lemmas.List.{length_push}
 use Rattle.docket.specs.declared.Docket.{Docket}
-use Rattle.facts.specs.Events.{Event, Ran, Each, Interleaved, none, left, right}
+use Rattle.docket.specs.Runs.{Event, Banks, Ran}
+use Rattle.facts.specs.Events.{Each, Interleaved, none, left, right}
 
 pub swapped : {xs ys zs : List Event} → Interleaved xs ys zs → Interleaved ys xs zs
 swapped none = none
@@ -10,7 +11,8 @@ swapped (left p) = right (swapped p)
 swapped (right p) = left (swapped p)
 
 -- of three lists, the first with the other two
-pub regrouped : {zs os run : List Event} → Interleaved zs os run → {xs ys : List Event} → Interleaved xs ys zs → (rest : List Event) × Interleaved ys os rest × Interleaved xs rest run
+pub regrouped : {zs os run : List Event} → Interleaved zs os run → {xs ys : List Event} → Interleaved xs ys zs
+    → (rest : List Event) × Interleaved ys os rest × Interleaved xs rest run
 regrouped none none = ([], none, none)
 regrouped (left q) (left p) = let (r, a, b) = regrouped q p in (r, a, left b)
 regrouped (left {x = x} q) (right p) = let (r, a, b) = regrouped q p in (x ∷ r, left a, right b)
@@ -34,7 +36,8 @@ pub record Split (xs : List Event) (x : Event) (os run : List Event) : Type 0 wh
   pub others_are : os ≡ early ++ after
   pub earlier : Interleaved xs early before
 
-pub split : {vs os run : List Event} → Interleaved vs os run → (xs : List Event) (x : Event) → vs ≡ xs ++ x ∷ [] → Split xs x os run
+pub split : {vs os run : List Event} → Interleaved vs os run → (xs : List Event) (x : Event) → vs ≡ xs ++ x ∷ []
+    → Split xs x os run
 split none xs x e = absurd (omega (arith, ap length e, length_push xs x))
 split (left {x = y} {xs = ws} {ys = ys} {zs = zs} p) [] x e =
     let y_is : y ≡ x = cc in
@@ -45,14 +48,29 @@ split (left {x = y} {xs = ws} {zs = zs} p) (z ∷ xs) x e =
     let y_is : y ≡ z = cc in
     let w_is : ws ≡ xs ++ x ∷ [] = cc in
     let s = split p xs x w_is in
-    record { before = z ∷ s.before; after = s.after; early = s.early; run_is = ap (λ u. u ∷ zs) y_is ∙ ap (λ us. z ∷ us) s.run_is; others_are = s.others_are; earlier = left s.earlier }
+    record {
+      before = z ∷ s.before;
+      after = s.after;
+      early = s.early;
+      run_is = ap (λ u. u ∷ zs) y_is ∙ ap (λ us. z ∷ us) s.run_is;
+      others_are = s.others_are;
+      earlier = left s.earlier;
+    }
 split (right {y = y} p) xs x e =
     let s = split p xs x e in
-    record { before = y ∷ s.before; after = s.after; early = y ∷ s.early; run_is = ap (λ zs. y ∷ zs) s.run_is; others_are = ap (λ zs. y ∷ zs) s.others_are; earlier = right s.earlier }
+    record {
+      before = y ∷ s.before;
+      after = s.after;
+      early = y ∷ s.early;
+      run_is = ap (λ zs. y ∷ zs) s.run_is;
+      others_are = ap (λ zs. y ∷ zs) s.others_are;
+      earlier = right s.earlier;
+    }
 
-pub ran_split : (xs ys : List Event) (d e : Docket) → Ran d (xs ++ ys) e → (m : Docket) × Ran d xs m × Ran m ys e
-ran_split [] ys d e r = (d, refl, r)
-ran_split (x ∷ xs) ys d e r = let (m, p, q) = ran_split xs ys r.0 e r.2 in (m, (r.0, r.1, p), q)
+pub ran_split : (b : Banks) (xs ys : List Event) (d e : Docket) → Ran b d (xs ++ ys) e
+    → (m : Docket) × Ran b d xs m × Ran b m ys e
+ran_split b [] ys d e r = (d, refl, r)
+ran_split b (x ∷ xs) ys d e r = let (m, p, q) = ran_split b xs ys r.0 e r.3 in (m, (r.0, r.1, r.2, p), q)
 
 module _ (P : Event → Type 0) where
   pub each_split : (xs ys : List Event) → Each P (xs ++ ys) → Each P xs × Each P ys

@@ -1,3 +1,4 @@
+pub mod Reaching
 pub mod Licences
 pub mod Growing
 pub mod Members

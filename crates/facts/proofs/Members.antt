@@ -1,8 +1,9 @@
 -- Lists of numbers that all stand, and that rise.
-use Rattle.std.proofs.Common.{◌≡◌, ℕ, zero, suc, ◌+◌, ◌-◌, ◌<◌, ◌≤◌, Bool, true, false, not, ◌&&◌, eqb, ltb, List, [], ◌∷◌, length, get_or, None, sym, refl, ◌∙◌, subst, ⊎_elim, arith}
-use Rattle.std.proofs.lemmas.Bool.{cases_lt, and_parts, and_left, and_right, eqb-true, eq-eqb, lt-leb, le-ltb, not-false, leb-false, or_cases, or_left, or_right}
+use Rattle.std.proofs.Common.{◌≡◌, ℕ, zero, suc, ◌+◌, ◌-◌, ◌<◌, ◌≤◌, Bool, true, false, not, ◌&&◌, eqb, ltb, List, [], ◌∷◌, length, get_or, None, sym, refl, ap, ◌∙◌, subst, ⊎_elim, arith}
+use Rattle.std.proofs.lemmas.Bool.{cases_lt, cases_Bool, lt-ltb, and_parts, and_left, and_right, eqb-true, eq-eqb, lt-leb, le-ltb, not-false, leb-false, or_cases, or_left, or_right}
 use Rattle.bits.specs.Bits.{has}
-use Rattle.labels.specs.Labels.{row, among, absent, absent_at, falls, falling_at, outside}
+use Rattle.bits.specs.Among.{among}
+use Rattle.labels.specs.Labels.{row, absent, absent_at, falls, falling_at, outside}
 use Rattle.labels.proofs.LeastFacts.{least_all, all_least}
 use Rattle.labels.proofs.RowFacts.{row_has}
 use Rattle.facts.specs.Trees.{Rising}
@@ -20,6 +21,16 @@ none_absent n ms h = below_all n ms (λ i l. leb-false n (get_or ms i 0) (least_
 -- a number of a row is one of the numbers that it was made of
 pub in_row : (ms : List ℕ) (c : ℕ) → has (row ms) c ≡ true → among ms c ≡ true
 in_row ms c h = (and_parts (ltb c 1024) (among ms c) (sym (row_has ms c) ∙ h)).1
+
+-- and the row of numbers that are all below 1,024 has exactly these
+pub row_is : (ms : List ℕ) → ((c : ℕ) → among ms c ≡ true → c < 1024) → has (row ms) ≡ among ms
+row_is ms small = λ i c. each c i
+  where
+    each : (c : ℕ) → has (row ms) c ≡ among ms c
+    each c = row_has ms c ∙ ⊎_elim
+        (λ (h : among ms c ≡ true). ap (λ b. b && among ms c) (lt-ltb c 1024 (small c h)))
+        (λ (h : among ms c ≡ false). and_right (ltb c 1024) (among ms c) h ∙ sym h)
+        (cases_Bool (among ms c))
 
 -- where none of a row lies outside another, it lies within it
 pub none_outside : (y x : List ℕ) → outside y x ≡ None → (c : ℕ) → c < 1024 → has y c ≡ true → has x c ≡ true
@@ -41,7 +52,9 @@ none_falls : (ms : List ℕ) → Rising ms → (i : ℕ) → i < length ms → f
 none_falls ms r i l = ⊎_elim
     (λ (h : 0 < i).
     let e : i - 1 + 1 ≡ i = omega arith in
-    and_right (ltb 0 i) _ (lt-leb (get_or ms i 0) (get_or ms (i - 1) 0) (subst (λ (j : ℕ). get_or ms (i - 1) 0 < get_or ms j 0) e (r (i - 1) (omega arith)))))
+    let before = get_or ms (i - 1) 0 in
+    let rises : before < get_or ms i 0 = subst (λ (j : ℕ). before < get_or ms j 0) e (r (i - 1) (omega arith)) in
+    and_right (ltb 0 i) _ (lt-leb (get_or ms i 0) before rises))
     (λ (h : i ≤ 0). and_left (ltb 0 i) _ (le-ltb 0 i h))
     (cases_lt 0 i)
 

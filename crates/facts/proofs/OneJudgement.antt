@@ -1,8 +1,8 @@
 -- A model is judged in one way, whatever becomes of the working rows.
-use Rattle.std.proofs.Common.{◌≡◌, ℕ, ◌+◌, List, Some, None, Ok, Err, Result, refl, ap, ⊎_elim}
+use Rattle.std.proofs.Common.{◌≡◌, ℕ, ◌+◌, List, Some, None, Ok, Err, Result, sym, refl, ap, ◌∙◌, ⊎_elim}
 use Rattle.std.proofs.lemmas.Bool.{cases_order}
 use Rattle.refusals.specs.declared.Refusal.{Refusal}
-use Rattle.refusals.specs.declared.Refusal.TheVariants.{Model as WrongModel, RoleAxiom as BrokenRoleAxiom, Axiom as MissedAxiom, Point as MissedByPoint}
+use Rattle.refusals.proofs.Numbers.{returned_alike}
 use Rattle.logic.specs.declared.concept.Concept.{Concept}
 use Rattle.logic.specs.declared.role.RoleAxiom.{RoleAxiom}
 use Rattle.logic.specs.declared.role.RoleAxiom.TheVariants.{Inclusion}
@@ -11,7 +11,7 @@ use Rattle.logic.specs.Meaning.{Meets}
 use Rattle.models.specs.declared.Model.{Model}
 use Rattle.models.specs.Firsts.{First}
 use Rattle.models.specs.Models.{WellFormed, FirstFlaw, not_sized, bad_mark, bad_edge, described}
-use Rattle.models.specs.Judging.{Satisfied, RoleAxiomBroken, AxiomMissed, PointMissed, JudgedBy}
+use Rattle.models.specs.Judging.{Satisfied, RoleAxiomBroken, AxiomMissed, RefusedAs, wrong_form, breaks_role_axiom, misses_axiom, point_misses, JudgedBy}
 use Rattle.models.proofs.JudgingFacts.{member_at}
 
 -- the first number that fails is one
@@ -41,51 +41,47 @@ one_flaw m k j (bad_edge s g b) (bad_mark {i = i} t c) = absurd (none_fails _ _ 
 one_flaw m k j (bad_edge {i = i} s g b) (bad_edge {i = i'} t h c) = ap (λ n. 1 + m.mark_count + n) (one_first _ _ i i' b c)
 
 module _ (roles : List RoleAxiom) (cs : List Concept) (listed label : List ℕ) (m : Model) (old : List ℕ) where
-  broken_meets : {new : List ℕ} (i : ℕ) → RoleAxiomBroken roles cs listed label m old new i → MeetsRoleAxioms (described m) roles → ⊥
-  broken_meets i b meets = b.first_broken.1 (meets _ (member_at (Inclusion 0 0) roles i b.first_broken.0))
+  module _ {new : List ℕ} where
+    broken_meets : (i : ℕ) → RoleAxiomBroken roles cs listed label m old new i → MeetsRoleAxioms (described m) roles → ⊥
+    broken_meets i b meets = b.first_broken.1 (meets _ (member_at (Inclusion 0 0) roles i b.first_broken.0))
 
-  missed_meets : {new : List ℕ} (i : ℕ) → AxiomMissed roles cs listed label m old new i → Meets (described m) roles cs listed → ⊥
-  missed_meets i a meets = a.first_missed.1 (meets.meets_axioms _ (member_at 0 listed i a.first_missed.0))
+    missed_meets : (i : ℕ) → AxiomMissed roles cs listed label m old new i → Meets (described m) roles cs listed → ⊥
+    missed_meets i a meets = a.first_missed.1 (meets.meets_axioms _ (member_at 0 listed i a.first_missed.0))
 
-  -- the ways to judge a model
-  pub data Outcome (new : List ℕ) : Result (Unit {0}) Refusal → Type 0 where
-    flawed : {k : ℕ} → FirstFlaw m k → Outcome new (Err (WrongModel k))
-    broken : {i : ℕ} → RoleAxiomBroken roles cs listed label m old new i → Outcome new (Err (BrokenRoleAxiom i))
-    missed : {i : ℕ} → AxiomMissed roles cs listed label m old new i → Outcome new (Err (MissedAxiom i))
-    astray : {c : ℕ} → PointMissed roles cs listed label m old new c → Outcome new (Err (MissedByPoint c))
-    fits : Satisfied roles cs listed label m old new → Outcome new (Ok tt)
+  module _ {new other : List ℕ} where
+    -- it is taken or refused, and not both
+    not_both : (n p : ℕ) → Satisfied roles cs listed label m old new → RefusedAs roles cs listed label m old other n p → ⊥
+    not_both n p s (wrong_form e flaw same) = flaw_formed m p flaw s.formed
+    not_both n p s (breaks_role_axiom e b) = broken_meets p b s.meets.meets_roles
+    not_both n p s (misses_axiom e a) = missed_meets p a s.meets
+    not_both n p s (point_misses e x) = x.least_missed.1 (s.point_lies p x.least_missed.0)
 
-  pub outcome : {new : List ℕ} (r : Result (Unit {0}) Refusal) → JudgedBy roles cs listed label m old new r → Outcome new r
-  outcome (Ok u) j = fits j
-  outcome (Err (WrongModel k)) j = flawed j.0
-  outcome (Err (BrokenRoleAxiom i)) j = broken j
-  outcome (Err (MissedAxiom i)) j = missed j
-  outcome (Err (MissedByPoint c)) j = astray j
-  outcome (Err other) j = absurd j
+    -- and it is refused with one number and one place
+    one_refused : (n p k q : ℕ)
+        → RefusedAs roles cs listed label m old new n p → RefusedAs roles cs listed label m old other k q → (n ≡ k) × (p ≡ q)
+    one_refused n p k q (wrong_form e f s) (wrong_form e' f' s') = (e ∙ sym e', one_flaw m p q f f')
+    one_refused n p k q (wrong_form e f s) (breaks_role_axiom e' b) = absurd (flaw_formed m p f b.formed)
+    one_refused n p k q (wrong_form e f s) (misses_axiom e' a) = absurd (flaw_formed m p f a.formed)
+    one_refused n p k q (wrong_form e f s) (point_misses e' x) = absurd (flaw_formed m p f x.formed)
+    one_refused n p k q (breaks_role_axiom e b) (wrong_form e' f s) = absurd (flaw_formed m q f b.formed)
+    one_refused n p k q (breaks_role_axiom e b) (breaks_role_axiom e' b') =
+        (e ∙ sym e', one_first _ _ p q b.first_broken b'.first_broken)
+    one_refused n p k q (breaks_role_axiom e b) (misses_axiom e' a) = absurd (broken_meets p b a.meets_roles)
+    one_refused n p k q (breaks_role_axiom e b) (point_misses e' x) = absurd (broken_meets p b x.meets.meets_roles)
+    one_refused n p k q (misses_axiom e a) (wrong_form e' f s) = absurd (flaw_formed m q f a.formed)
+    one_refused n p k q (misses_axiom e a) (breaks_role_axiom e' b) = absurd (broken_meets q b a.meets_roles)
+    one_refused n p k q (misses_axiom e a) (misses_axiom e' a') = (e ∙ sym e', one_first _ _ p q a.first_missed a'.first_missed)
+    one_refused n p k q (misses_axiom e a) (point_misses e' x) = absurd (missed_meets p a x.meets)
+    one_refused n p k q (point_misses e x) (wrong_form e' f s) = absurd (flaw_formed m q f x.formed)
+    one_refused n p k q (point_misses e x) (breaks_role_axiom e' b) = absurd (broken_meets q b x.meets.meets_roles)
+    one_refused n p k q (point_misses e x) (misses_axiom e' a) = absurd (missed_meets q a x.meets)
+    one_refused n p k q (point_misses e x) (point_misses e' x') = (e ∙ sym e', one_first _ _ p q x.least_missed x'.least_missed)
 
-  pub one_outcome : {new other : List ℕ} (r s : Result (Unit {0}) Refusal) → Outcome new r → Outcome other s → r ≡ s
-  one_outcome r s (flawed {k = k} f) (flawed {k = j} g) = ap (λ n. Err (WrongModel n)) (one_flaw m k j f g)
-  one_outcome r s (flawed {k = k} f) (broken x) = absurd (flaw_formed m k f x.formed)
-  one_outcome r s (flawed {k = k} f) (missed x) = absurd (flaw_formed m k f x.formed)
-  one_outcome r s (flawed {k = k} f) (astray x) = absurd (flaw_formed m k f x.formed)
-  one_outcome r s (flawed {k = k} f) (fits x) = absurd (flaw_formed m k f x.formed)
-  one_outcome r s (broken x) (flawed {k = k} f) = absurd (flaw_formed m k f x.formed)
-  one_outcome r s (broken {i = i} x) (broken {i = j} y) = ap (λ n. Err (BrokenRoleAxiom n)) (one_first _ _ i j x.first_broken y.first_broken)
-  one_outcome r s (broken {i = i} x) (missed y) = absurd (broken_meets i x y.meets_roles)
-  one_outcome r s (broken {i = i} x) (astray y) = absurd (broken_meets i x y.meets.meets_roles)
-  one_outcome r s (broken {i = i} x) (fits y) = absurd (broken_meets i x y.meets.meets_roles)
-  one_outcome r s (missed x) (flawed {k = k} f) = absurd (flaw_formed m k f x.formed)
-  one_outcome r s (missed x) (broken {i = i} y) = absurd (broken_meets i y x.meets_roles)
-  one_outcome r s (missed {i = i} x) (missed {i = j} y) = ap (λ n. Err (MissedAxiom n)) (one_first _ _ i j x.first_missed y.first_missed)
-  one_outcome r s (missed {i = i} x) (astray y) = absurd (missed_meets i x y.meets)
-  one_outcome r s (missed {i = i} x) (fits y) = absurd (missed_meets i x y.meets)
-  one_outcome r s (astray x) (flawed {k = k} f) = absurd (flaw_formed m k f x.formed)
-  one_outcome r s (astray x) (broken {i = i} y) = absurd (broken_meets i y x.meets.meets_roles)
-  one_outcome r s (astray x) (missed {i = i} y) = absurd (missed_meets i y x.meets)
-  one_outcome r s (astray {c = c} x) (astray {c = d} y) = ap (λ n. Err (MissedByPoint n)) (one_first _ _ c d x.least_missed y.least_missed)
-  one_outcome r s (astray {c = c} x) (fits y) = absurd (x.least_missed.1 (y.point_lies c))
-  one_outcome r s (fits x) (flawed {k = k} f) = absurd (flaw_formed m k f x.formed)
-  one_outcome r s (fits x) (broken {i = i} y) = absurd (broken_meets i y x.meets.meets_roles)
-  one_outcome r s (fits x) (missed {i = i} y) = absurd (missed_meets i y x.meets)
-  one_outcome r s (fits x) (astray {c = c} y) = absurd (y.least_missed.1 (x.point_lies c))
-  one_outcome r s (fits x) (fits y) = refl
+  pub one_judged : (new other : List ℕ) (r s : Result (Unit {0}) Refusal)
+      → JudgedBy roles cs listed label m old new r → JudgedBy roles cs listed label m old other s → r ≡ s
+  one_judged new other (Ok u) (Ok v) p q = refl
+  one_judged new other (Ok u) (Err y) p q = absurd (not_both _ _ p q)
+  one_judged new other (Err x) (Ok v) p q = absurd (not_both _ _ q p)
+  one_judged new other (Err x) (Err y) p q =
+      let (n, k) = one_refused _ _ _ _ p q in
+      ap (λ f. Err f) (returned_alike x y (λ i. (n i, k i)))

@@ -1,29 +1,22 @@
--- Calls with their answers, one after another.
-use Rattle.std.specs.Prelude.{◌≡◌, ℕ, ◌⊎◌, List, [], ◌∷◌, Ok, Err, Result}
+-- Calls with their answers, and questions, one after another.
+use Rattle.std.specs.Prelude.{ℕ, ◌⊎◌, List, [], ◌∷◌, Ok, Err, Result}
 use Rattle.refusals.specs.declared.Refusal.{Refusal}
-use Rattle.docket.specs.declared.Docket.{Docket}
-use Rattle.docket.specs.Calls.{Call, pair, seal, close_empty, close_inhabited, Acts}
-
--- a call and its answer: a number, or a refusal
-pub record Event : Type 0 where
-  pub call : Call
-  pub answer : Result ℕ Refusal
-
--- docket d becomes e as these calls are made, one after another, and so answered
-abbrev pub Ran : Docket → List Event → Docket → Type 0
-Ran d [] e = e ≡ d
-Ran d (x ∷ xs) e = (m : Docket) × Acts x.call d x.answer m × Ran m xs e
+use Rattle.docket.specs.Calls.{Call, pair, seal, close_empty, close_inhabited}
+use Rattle.docket.specs.Runs.{Event, called, asked}
 
 -- every event is so
 abbrev pub Each : (Event → Type 0) → List Event → Type 0
 Each P [] = Unit {0}
 Each P (x ∷ xs) = P x × Each P xs
 
--- the third list has the events of the first two: each list keeps its order, and otherwise they alternate in any way
+-- the third list has the events of the first two: each list keeps its order, and otherwise they
+-- alternate in any way
 pub data Interleaved : List Event → List Event → List Event → Type 0 where
   none : Interleaved [] [] []
-  left : {x : Event} {xs ys zs : List Event} → Interleaved xs ys zs → Interleaved (x ∷ xs) ys (x ∷ zs)
-  right : {y : Event} {xs ys zs : List Event} → Interleaved xs ys zs → Interleaved xs (y ∷ ys) (y ∷ zs)
+  left : {x : Event} {xs ys zs : List Event}
+      → Interleaved xs ys zs → Interleaved (x ∷ xs) ys (x ∷ zs)
+  right : {y : Event} {xs ys zs : List Event}
+      → Interleaved xs ys zs → Interleaved xs (y ∷ ys) (y ∷ zs)
 
 -- calls that file nothing
 abbrev pub FilesNothing : Call → Type 0
@@ -37,6 +30,7 @@ abbrev pub IsRefusal : Result ℕ Refusal → Type 0
 IsRefusal (Ok i) = ⊥
 IsRefusal (Err x) = Unit {0}
 
--- nothing was filed: the call files nothing, or it was refused
+-- nothing was filed: a question, a call that files nothing, or a refused one
 abbrev pub NothingFiled : Event → Type 0
-NothingFiled x = FilesNothing x.call ⊎ IsRefusal x.answer
+NothingFiled (called c a) = FilesNothing c ⊎ IsRefusal a
+NothingFiled (asked q) = Unit {0}

@@ -1,25 +1,34 @@
 -- What the taking of closed trees asks of the rules.
-use Rattle.std.specs.Prelude.{◌≡◌, ℕ, ◌<◌, Bool, true, List, length}
-use Rattle.bits.specs.Bits.{has}
-use Rattle.vocabulary.specs.declared.Vocabulary.{Vocabulary}
-use Rattle.vocabulary.specs.Vocabularies.{concepts, Paired}
-use Rattle.vocabulary.specs.Keeping.{Kept}
+use Rattle.std.specs.Prelude.{◌≡◌, ℕ, ◌<◌, Bool, true, length}
+use Rattle.logic.specs.Theories.{Theory}
+use Rattle.logic.specs.Pairing.{Pairable, joined}
+use Rattle.logic.specs.Keeping.{Kept}
 use Rattle.calculus.specs.declared.rule.Principals.{Principals}
 use Rattle.calculus.specs.Calculi.{Calculus}
 
 -- the principals are standing concepts
-abbrev pub PrincipalsStand : Vocabulary → Principals → Type 0
-PrincipalsStand v on = (on.p < length (concepts v)) × (on.q < length (concepts v)) × (on.s < length (concepts v))
+abbrev pub PrincipalsStand : Theory → Principals → Type 0
+PrincipalsStand t on =
+    (on.p < length t.concepts) × (on.q < length t.concepts) × (on.s < length t.concepts)
 
--- of one rule: if a step applies to a label of standing concepts, then its principals stand too; and when two concepts are
--- paired, it goes on to apply, with the same conclusions
-pub record ProperRule (applies : Vocabulary → Principals → List ℕ → Bool) (concludes : Vocabulary → Principals → List ℕ → ℕ → ℕ → Bool) : Type 0 where
-  pub principals_stand : (v : Vocabulary) (on : Principals) (x : List ℕ) → Kept v → ((c : ℕ) → has x c ≡ true → c < length (concepts v))
-      → applies v on x ≡ true → PrincipalsStand v on
-  pub still_applies : (v w : Vocabulary) (c d : ℕ) → Kept v → Paired v w c d true → (on : Principals) (x : List ℕ)
-      → applies v on x ≡ true → applies w on x ≡ true
-  pub still_concludes : (v w : Vocabulary) (c d : ℕ) → Kept v → Paired v w c d true → (on : Principals) (x : List ℕ)
-      → applies v on x ≡ true → (i e : ℕ) → concludes w on x i e ≡ concludes v on x i e
+-- t once c and d are paired
+abbrev pub with_pair : Theory → ℕ → ℕ → Theory
+with_pair t c d = record t { mates = joined t.mates c d }
+
+-- Of one rule, in theories that are kept: if a step applies to a set of standing concepts,
+-- its principals stand too; and when two concepts are paired, it goes on to apply, with the same
+-- conclusions.
+pub record ProperRule (applies : Theory → Principals → (ℕ → Bool) → Bool)
+    (concludes : Theory → Principals → (ℕ → Bool) → ℕ → ℕ → Bool) : Type 0 where
+  pub principals_stand : (t : Theory) (on : Principals) (X : ℕ → Bool) → Kept t
+      → ((c : ℕ) → X c ≡ true → c < length t.concepts)
+      → applies t on X ≡ true → PrincipalsStand t on
+  pub still_applies : (t : Theory) (c d : ℕ) → Kept t → Pairable t c d
+      → (on : Principals) (X : ℕ → Bool) → applies t on X ≡ true
+      → applies (with_pair t c d) on X ≡ true
+  pub still_concludes : (t : Theory) (c d : ℕ) → Kept t → Pairable t c d
+      → (on : Principals) (X : ℕ → Bool) → applies t on X ≡ true
+      → (i e : ℕ) → concludes (with_pair t c d) on X i e ≡ concludes t on X i e
 
 -- of all of its rules
 abbrev pub Proper : Calculus → Type 0

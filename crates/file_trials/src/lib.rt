@@ -11,3 +11,5 @@ mod places;
 mod printed;
 #[cfg(test)]
 mod small;
+#[cfg(test)]
+mod streams;

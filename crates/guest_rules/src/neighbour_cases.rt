@@ -1,7 +1,8 @@
 ghost use Rattle.std.specs.Prelude.{◌≡◌, ◌&&◌, Some, None, cond, ◌==◌, length, nat_lt, refl};
+ghost use Rattle.bits.specs.Bits.{has};
 ghost use Rattle.labels.specs.Labels.{Row};
+ghost use Rattle.vocabulary.specs.Vocabularies.{concepts, theory};
 ghost use Rattle.schemas.specs.Tests.{first_of, second_of};
-ghost use Rattle.vocabulary.specs.Vocabularies.{concepts};
 ghost use Rattle.guest_rules.specs.Guests.{asked, asks_for_cases, neighbour_cases};
 ghost use Rattle.guest_rules.specs.Laws.{neighbour_cases_lawful};
 
@@ -14,7 +15,10 @@ use schemas::conclusion::nothing;
 
 // The two cases, D and E: p is in the label, "some R C", and C is "D or E".
 fn cases(at: &Premise) -> Option<(u16, u16)>
-    ensures { result ≡ cond (asks_for_cases at.now.vocabulary.now at.now.on at.now.label.now) (Some (first_of (asked at.now.vocabulary.now at.now.on), second_of (asked at.now.vocabulary.now at.now.on))) None }
+    ensures { let t = theory at.now.vocabulary.now in
+        let concept = asked t at.now.on in
+        result ≡ cond (asks_for_cases t at.now.on (has at.now.label.now))
+        (Some (first_of concept, second_of concept)) None }
 {
     let Some(Concept::Exists(_, c)) = at.sole_principal() else {
         return None;

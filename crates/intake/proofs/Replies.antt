@@ -9,8 +9,9 @@ use Rattle.records.specs.declared.record.Record.TheVariants.{Inclusion, Transiti
 use Rattle.records.specs.Records.{end_of, Next}
 use Rattle.records.proofs.Offsets.{RecordsBefore, lies_more, passed_more}
 use Rattle.docket.specs.declared.Docket.{Docket}
-use Rattle.calculus.specs.Calculi.{Calculus, LawfulCalculus}
-use Rattle.docket.specs.Runs.{Lent, Reached, called}
+use Rattle.calculus.specs.Calculi.{Calculus}
+use Rattle.docket.specs.Runs.{Banks, Lends, LendsCall, Reached}
+use Rattle.docket.proofs.Running.{stays}
 use Rattle.intake.specs.declared.Reply.{Reply}
 use Rattle.intake.specs.Taking.{call_of, TakesContent, Takes, TakesAt, RecordsTaken, ended, next}
 use Rattle.records.specs.Files.{HasRecords}
@@ -59,37 +60,39 @@ handed_room {f = f} {r = r} {n = n} {total = total} frame h gave has enough =
 pub handed_more : {k : Calculus} {f : List ℕ} {r s : Reader} {n : ℕ} {d m e : Docket} {old mid new : List ℕ} {rs ss : List Reply} (frame : Frame) (a : Result ℕ Refusal)
     → Handed k f r n d old rs m mid ss → Next r s (Some frame) → n < length ss → Takes k frame m mid a e new
     → Handed k f s (n + 1) d old rs e new (set ss n (record { kind = frame.kind; answer = a }))
-handed_more {k} {f} {r} {s} {n} {d} {m} {e} {old} {mid} {new} {rs} {ss} frame a h (below, offset, kind, content, file, at) room takes =
+handed_more {k} {f} {r} {s} {n} {d} {m} {e} {old} {mid} {new} {rs} {ss} frame a h (below, offset, kind, content, after) room takes =
     let inside : r.at < length f = rw (sym h.file) below in
     let reply : Reply = record { kind = frame.kind; answer = a } in
     let there : TakesAt k f r.at m mid reply e new = record { content = frame.content; lies = rw (sym h.file) content; kind = rw (sym h.file) kind; takes = takes } in
-    let end : s.at ≡ end_of f r.at = at ∙ ap (λ g. end_of g r.at) h.file in
+    let end : s.at ≡ end_of f r.at = ap (λ (x : Reader). x.at) after ∙ ap (λ g. end_of g r.at) h.file in
     record {
-      file = ap (λ x. x.now) file ∙ h.file;
+      file = ap (λ (x : Reader). x.file.now) after ∙ h.file;
       passed = rw end (passed_more f n r.at inside h.passed);
       taken = rw end (taken_more k f r.at n d m e old mid new ss reply inside room there h.taken);
       behind = untouched_more ss rs n reply h.behind;
     }
 
--- the bank that is lent to a record's call shows the law
-lent : (k : Calculus) → LawfulCalculus k → (old new : List ℕ) (x : Record) → Lent (call_of k old new x)
-lent k law old new (Inclusion body) = tt
-lent k law old new (Transitivity body) = tt
-lent k law old new (Concept body) = tt
-lent k law old new (Pair body) = tt
-lent k law old new (Axiom body) = tt
-lent k law old new Seal = tt
-lent k law old new (Line body members) = law
-lent k law old new (Claim members) = tt
-lent k law old new (CloseEmpty body) = tt
-lent k law old new (CloseInhabited body marks edges) = tt
+-- the bank that is lent to a record's call is such a bank
+lent : (b : Banks) (k : Calculus) → Lends b k → (old new : List ℕ) (x : Record) → LendsCall b (call_of k old new x)
+lent b k lends old new (Inclusion body) = tt
+lent b k lends old new (Transitivity body) = tt
+lent b k lends old new (Concept body) = tt
+lent b k lends old new (Pair body) = tt
+lent b k lends old new (Axiom body) = tt
+lent b k lends old new Seal = tt
+lent b k lends old new (Line body members) = lends
+lent b k lends old new (Claim members) = tt
+lent b k lends old new (CloseEmpty body) = tt
+lent b k lends old new (CloseInhabited body marks edges) = tt
 
--- a docket that took records is one that calls have reached
-takes_reached : (k : Calculus) → LawfulCalculus k → (x : Result Record Refusal) (d e : Docket) (old new : List ℕ) (a : Result ℕ Refusal) → TakesContent k x d old a e new → Reached d → Reached e
-takes_reached k law (Err f) d e old new a h p = subst Reached (sym h.1) p
-takes_reached k law (Ok x) d e old new a h p = called (call_of k old new x) a p (lent k law old new x) h.0
+-- a docket that was reached before records is reached after them
+pub takes_reached : (b : Banks) (k : Calculus) → Lends b k → (x : Result Record Refusal) (d e : Docket) (old new : List ℕ) (a : Result ℕ Refusal)
+    → TakesContent k x d old a e new → Reached b d → Reached b e
+takes_reached b k lends (Err f) d e old new a h p = subst (Reached b) (sym h.1) p
+takes_reached b k lends (Ok x) d e old new a h p = (stays h.0).reached b (lent b k lends old new x) p
 
-pub taken_reached : (k : Calculus) → LawfulCalculus k → (f : List ℕ) (i : ℕ) (d e : Docket) (old new : List ℕ) (rs : List Reply) → RecordsTaken k f i d old rs e new → Reached d → Reached e
-taken_reached k law f i d e old new rs (ended l) p = p
-taken_reached k law f i d e old new rs (next {m = m} {mid = mid} {r = r} l t rest) p =
-    taken_reached k law f (end_of f i) m e mid new _ rest (takes_reached k law t.content d m old mid r.answer t.takes p)
+pub taken_reached : (b : Banks) (k : Calculus) → Lends b k → (f : List ℕ) (i : ℕ) (d e : Docket) (old new : List ℕ) (rs : List Reply)
+    → RecordsTaken k f i d old rs e new → Reached b d → Reached b e
+taken_reached b k lends f i d e old new rs (ended l) p = p
+taken_reached b k lends f i d e old new rs (next {m = m} {mid = mid} {r = r} l t rest) p =
+    taken_reached b k lends f (end_of f i) m e mid new _ rest (takes_reached b k lends t.content d m old mid r.answer t.takes p)

@@ -8,7 +8,8 @@ use Rattle.intake.specs.declared.Reply.{Reply}
 -- `ok` and the new entry's number, or `refused` with number and place
 abbrev pub answer_text : Result ℕ Refusal → List ℕ
 answer_text (Ok i) = codes " ok " ++ decimal i
-answer_text (Err x) = codes " refused " ++ (decimal (returned x).0 ++ (codes " " ++ decimal (returned x).1))
+answer_text (Err x) =
+    codes " refused " ++ (decimal (returned x).0 ++ (codes " " ++ decimal (returned x).1))
 
 -- the kind of the record, and the answer
 abbrev pub reply_text : Reply → List ℕ

@@ -2,9 +2,10 @@
 
 pub mod show;
 
-ghost use Rattle.docket.specs.Runs.{Reached};
+ghost use Rattle.docket.specs.Runs.{Banks, Lends, Reached};
 ghost use Rattle.facts.specs.Claims.{ClaimsAreRight};
 ghost use Rattle.facts.specs.Facts.{ThreeFacts};
+ghost use Rattle.intake.specs.Joining.{FiledTreesAreTaken};
 ghost use Rattle.intake.specs.Taking.{Takes, FileTaken};
 
 use book::filing::Draft;
@@ -26,7 +27,9 @@ pub struct Reply {
 
 /// Hands a record to the docket, with a bank of rules and working rows for models.
 pub fn take<B: Bank>(docket: &mut Docket, bank: &B, frame: &Frame, rows: &mut [u64]) -> Answer
-    ensures { Takes (B.Bank.calculus bank.now) frame.now docket.old rows.old result docket.new rows.new }
+    ensures takes { Takes (B.Bank.calculus bank.now) frame.now docket.old rows.old result docket.new rows.new }
+    ensures reached { (b : Banks) → Lends b (B.Bank.calculus bank.now) → Reached b docket.old
+        → Reached b docket.new }
 {
     match frame.content? {
         Record::Inclusion { body } => docket.file_inclusion(field(body, 0), field(body, 1)),
@@ -71,8 +74,8 @@ pub fn take<B: Bank>(docket: &mut Docket, bank: &B, frame: &Frame, rows: &mut [u
     }
 }
 
-/// Hands a whole file to the docket, record by record, and writes the reply to each. Answers how many records there are;
-/// with fewer places for replies than that, it refuses and changes nothing.
+/// Hands a whole file to the docket, record by record, and writes the reply to each. Answers how
+/// many records there are; with fewer places for replies than that, it refuses and changes nothing.
 pub fn take_file<B: Bank>(
     docket: &mut Docket,
     bank: &B,
@@ -81,15 +84,18 @@ pub fn take_file<B: Bank>(
     replies: &mut [Reply],
 ) -> Answer
     ensures taken { FileTaken (B.Bank.calculus bank.now) file.now docket.old rows.old replies.old result docket.new rows.new replies.new }
-    ensures reached { Reached docket.old → Reached docket.new }
+    ensures reached { (b : Banks) → Lends b (B.Bank.calculus bank.now) → Reached b docket.old
+        → Reached b docket.new }
     ensures facts { ThreeFacts }
+    ensures trees { FiledTreesAreTaken }
     ensures claims { ClaimsAreRight }
 {
     let total = count(file);
     if replies.len() < total {
         return Err(Refusal::Range(1));
     }
-    // not zipped with `replies.iter_mut()`: of what is written through an adapter of it no proof knows anything
+    // not zipped with `replies.iter_mut()`: of what is written through an adapter of it no proof
+    // knows anything
     for (i, frame) in Reader::new(file).enumerate() {
         replies[i] = Reply {
             kind: frame.kind,

@@ -4,7 +4,8 @@ ghost use Rattle.intake.specs.Printing.{reply_text};
 use crate::Reply;
 use std::fmt;
 
-// A reply as the program prints it: the kind, and then `ok` with the entry's number or `refused` with number and place.
+// A reply as the program prints it: the kind, and then `ok` with the entry's number or `refused`
+// with number and place.
 impl fmt::Display for Reply {
     ghost output = { λ r. Some (reply_text r) };
 

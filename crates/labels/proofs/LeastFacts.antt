@@ -9,6 +9,11 @@ pub least_none : (f : ℕ → Bool) → least 0 f ≡ None
 unfolding least
 least_none f = refl
 
+-- one number more
+pub least_next : (n : ℕ) (f : ℕ → Bool) → least (n + 1) f ≡ found_or (least n f) (f n) n
+unfolding least
+least_next n f = rw add-one refl
+
 -- nothing so far, nor here
 pub least_more : (n : ℕ) (f : ℕ → Bool) → least n f ≡ None → f n ≡ false → least (n + 1) f ≡ None
 unfolding least

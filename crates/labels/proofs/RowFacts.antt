@@ -5,7 +5,8 @@ use Rattle.std.proofs.lemmas.List.{set_past}
 use Rattle.std.proofs.lemmas.Bool.{cases_eq, cases_lt, eq-eqb, ne_eqb, lt-ltb, le-ltb}
 use Rattle.bits.specs.Bits.{has, inserted}
 use Rattle.bits.proofs.BitFacts.{length_inserted, has_inserted, has_zeros}
-use Rattle.labels.specs.Labels.{among, filled, row}
+use Rattle.bits.specs.Among.{among}
+use Rattle.labels.specs.Labels.{filled, row}
 
 -- one number more, if the row has a place for it
 pub inserted_has : (r : List ℕ) (m c : ℕ) → has (inserted r m) c ≡ ((ltb c (64 * length r) && eqb m c) || has r c)

@@ -1,7 +1,7 @@
 -- The numbers of a list looked at one by one, and whether each is above the one before it.
-use Rattle.std.proofs.Common.{◌≡◌, ℕ, ◌+◌, ◌-◌, ◌<◌, ◌≤◌, true, false, List, [], ◌∷◌, length, get_or, drop, sym, ap, ◌∙◌, ⊎_elim, arith}
+use Rattle.std.proofs.Common.{◌≡◌, ℕ, ◌+◌, ◌-◌, ◌<◌, ◌≤◌, true, false, ltb, List, [], ◌∷◌, length, get_or, drop, sym, ap, ◌∙◌, ⊎_elim, arith}
 use Rattle.std.proofs.lemmas.List.{drop_more, drop_all}
-use Rattle.std.proofs.lemmas.Bool.{cases_lt, lt-ltb, le-leb, lt-leb}
+use Rattle.std.proofs.lemmas.Bool.{cases_lt, lt-ltb, le-ltb, le-leb, lt-leb}
 use Rattle.labels.specs.Labels.{falls}
 
 -- what is left after place k begins with the number at k
@@ -34,3 +34,9 @@ module _ (ms : List ℕ) (k m floor : ℕ) (first : k ≡ 0 → floor ≡ 0) (la
       (λ (l : 0 < k). let e = later l in rw (lt-ltb 0 k l) (lt-leb (get_or ms k 0) (get_or ms (k - 1) 0) (omega arith)))
       (λ (l : k ≤ 0). let e : k ≡ 0 = omega arith in rw e)
       (cases_lt 0 k)
+
+  pub floor_test : ltb m floor ≡ falls ms k
+  floor_test = ⊎_elim
+      (λ (h : m < floor). lt-ltb m floor h ∙ sym (falls_below h))
+      (λ (h : floor ≤ m). le-ltb m floor h ∙ sym (rises_above h))
+      (cases_lt m floor)

@@ -1,8 +1,12 @@
--- Labels. A label is a set of concepts, given as a strictly rising list of numbers and kept as a row of sixteen words: concept c
--- is bit c mod 64 of word c div 64.
-use Rattle.std.specs.Prelude.{◌≡◌, ℕ, ◌-◌, Bool, false, not, ◌&&◌, ◌||◌, List, [], ◌∷◌, length, replicate, Option, ◌==◌, nat_le, nat_lt, slice_index}
+-- Labels. A label is a set of concepts, given as a strictly rising list of numbers and kept as a
+-- row of sixteen words: concept c is bit c mod 64 of word c div 64.
+use Rattle.std.specs.Prelude.{◌≡◌, ℕ, ◌-◌, ◌%◌, Bool, not, ◌&&◌, List, [], ◌∷◌, length, replicate, Option, ◌==◌, nat_le, nat_lt, slice_index}
 use Rattle.bits.specs.Bits.{has, inserted}
 use Rattle.labels.specs.Least.{least}
+
+-- the bytes end in the middle of a member, which has two
+abbrev pub is_cut : List ℕ → Bool
+is_cut bytes = length bytes % 2 == 1
 
 -- the number at i is not below the count
 abbrev pub absent : ℕ → List ℕ → ℕ → Bool
@@ -19,11 +23,6 @@ falls ms i = nat_lt 0 i && nat_le (slice_index ms i) (slice_index ms (i - 1))
 -- the first position whose number is not above the one before it
 abbrev pub falling_at : List ℕ → Option ℕ
 falling_at ms = least (length ms) (falls ms)
-
--- c is one of the numbers
-abbrev pub among : List ℕ → ℕ → Bool
-among [] c = false
-among (m ∷ ms) c = m == c || among ms c
 
 -- the numbers put into a row, one after the other
 abbrev pub filled : List ℕ → List ℕ → List ℕ

@@ -6,8 +6,8 @@ ghost use Rattle.labels.specs.Least.{least};
 use bits::low_bits;
 use std::array;
 
-// A label as it is kept: a row of sixteen words, which is a plain array, so that rows copy and compare by words. It is looked
-// through word by word, never bit by bit.
+// A label as it is kept: a row of sixteen words, which is a plain array, so that rows copy and
+// compare by words. It is looked through word by word, never bit by bit.
 
 // The lowest bit of a word.
 fn lowest(word: u64) -> Option<u16>

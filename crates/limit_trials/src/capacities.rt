@@ -96,7 +96,7 @@ fn axioms(rt: HostRuntime) -> Result<(), Fail> {
 }
 
 // A label may be claimed again.
-fn fill_claims(alloc: Global, docket: &mut Docket) -> Result<(), Fail> {
+pub fn fill_claims(alloc: Global, docket: &mut Docket) -> Result<(), Fail> {
     for i in 0..256u16 {
         play(alloc, docket, &[Record(&[8, i % 2], Ok(i as usize))])?;
     }

@@ -4,6 +4,8 @@
 #[cfg(test)]
 mod capacities;
 #[cfg(test)]
+mod cut_labels;
+#[cfg(test)]
 mod numbers;
 #[cfg(test)]
 mod opening;

@@ -17,7 +17,7 @@ const ROOM: Room = Room {
 };
 
 // Name 0 and not name 0, mates; "or", "and", "some 0" and "only 0" of them; name 1, an axiom. Two lines: {0, 1}, and {0, 1, 2}.
-static DOCKET: [Step; 12] = [
+pub static DOCKET: [Step; 12] = [
     Record(&[3, 2, 0, 0], Ok(0)),
     Record(&[3, 3, 0, 0], Ok(1)),
     Record(&[4, 0, 1], Ok(0)),

@@ -8,8 +8,8 @@ use Rattle.logic.specs.declared.role.RoleAxiom.TheVariants.{Inclusion, Transitiv
 abbrev pub inverse : ℕ → ℕ
 inverse r = r + 1 - 2 * (r % 2)
 
--- R is below S: the least relation that has every listed inclusion, has each role below itself, passes along chains,
--- and has the inverse of R below the inverse of S wherever R is below S
+-- R is below S: the least relation that has every listed inclusion, has each role below itself,
+-- passes along chains, and has the inverse of R below the inverse of S wherever R is below S
 pub data Below (axioms : List RoleAxiom) : ℕ → ℕ → Type 0 where
   listed : {r s : ℕ} → Memᴰ (Inclusion r s) axioms → Below axioms r s
   itself : {r : ℕ} → Below axioms r r

@@ -6,6 +6,8 @@ mod axioms;
 #[cfg(test)]
 mod form;
 #[cfg(test)]
+mod judged;
+#[cfg(test)]
 mod largest;
 #[cfg(test)]
 mod lists;

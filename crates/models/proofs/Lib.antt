@@ -1,9 +1,11 @@
 pub mod FirstFacts
 pub mod ChunkFacts
 pub mod EdgeFacts
+pub mod PartFacts
 pub mod PairFacts
 pub mod TableFacts
 pub mod WithinFacts
 pub mod WalkFacts
 pub mod MeaningFacts
+pub mod ReachFacts
 pub mod JudgingFacts

@@ -51,11 +51,11 @@ reaches_out : (es : List ℕ) (r : ℕ) (g : ℕ → Bool) (e : ℕ) → T (reac
 reaches_out es r g e t =
     let w = some_there (edges_in es) _ t in
     let p = and_out _ _ w.2 in
-    let q = and_out _ _ p.0 in
-    (w.0, record { listed = w.1; role_is = eqb→eq _ _ q.0; passed = q.1; source_is = eqb→eq _ _ p.1 })
+    let q = and_out _ _ p.1 in
+    (w.0, record { listed = w.1; role_is = eqb→eq _ _ p.0; passed = q.0; source_is = eqb→eq _ _ q.1 })
 
 reaches_in : (es : List ℕ) (r : ℕ) (g : ℕ → Bool) (e i : ℕ) → Reached es r g e i → T (reaches es r g e)
-reaches_in es r g e i w = there_some (edges_in es) _ i w.listed (and_in _ _ (and_in _ _ (eq_T _ _ w.role_is) w.passed) (eq_T _ _ w.source_is))
+reaches_in es r g e i w = there_some (edges_in es) _ i w.listed (and_in _ _ (eq_T _ _ w.role_is) (and_in _ _ w.passed (eq_T _ _ w.source_is)))
 
 module _ (m : Model) (formed : WellFormed m) where
   abbrev I : Interpretation
@@ -69,16 +69,16 @@ module _ (m : Model) (formed : WellFormed m) where
       let w = some_there (marks_in m.marks.now) _ t in
       subst (λ x. x < m.size) (eqb→eq _ _ (and_out _ _ w.2).1) (formed.good_marks w.0 w.1).element_in_range
 
-  reached_in_range : (r : ℕ) (g : ℕ → Bool) (e : ℕ) → T (reaches es r g e) → e < m.size
+  pub reached_in_range : (r : ℕ) (g : ℕ → Bool) (e : ℕ) → T (reaches es r g e) → e < m.size
   reached_in_range r g e t = let (i, w) = reaches_out es r g e t in subst (λ x. x < m.size) w.source_is (source_in_range m formed r i w.listed)
 
   -- role r leads from e to an element that g passes exactly if an edge does
-  reaches_leads : (r : ℕ) (g : ℕ → Bool) (e : ℕ) → T (reaches es r g e) → (y : ℕ) × Element I y × Leads I r e y × T (g y)
+  pub reaches_leads : (r : ℕ) (g : ℕ → Bool) (e : ℕ) → T (reaches es r g e) → (y : ℕ) × Element I y × Leads I r e y × T (g y)
   reaches_leads r g e t =
       let (i, w) = reaches_out es r g e t in
       (edge_target es r i, element m _ (target_in_range m formed r i w.listed), subst (λ x. Leads I r x (edge_target es r i)) w.source_is (leads_in m r i w.listed w.role_is), w.passed)
 
-  leads_reaches : (r : ℕ) (g : ℕ → Bool) (e y : ℕ) → Leads I r e y → T (g y) → T (reaches es r g e)
+  pub leads_reaches : (r : ℕ) (g : ℕ → Bool) (e y : ℕ) → Leads I r e y → T (g y) → T (reaches es r g e)
   leads_reaches r g e y l t =
       let (i, p) = leads_out m r e y l in
       reaches_in es r g e i (record { listed = p.listed; role_is = p.role_is; passed = subst (λ x. T (g x)) (sym p.target_is) t; source_is = p.source_is })

@@ -60,7 +60,7 @@ module _ (m : Model) where
     pub target_small : (r i : ℕ) → i < edges_in es → edge_target es r i < 256
     target_small r i k = let f = formed.sized.few_elements in let h = target_in_range r i k in omega arith
 
-    pub pairs_included : (r s : ℕ) → ((k : ℕ) → k < edges_in es → PairIncluded m r s (edge_at es k)) ↔ Includes (described m) r s
+    pub pairs_included : (r s : ℕ) → ((k : ℕ) → k < edges_in es → edge_role es k ≡ r / 2 → PairIncluded m r s (edge_at es k)) ↔ Includes (described m) r s
     pairs_included r s = (
       (λ f x y hx hy t.
           let (i, p) = leads_out r x y t in
@@ -75,7 +75,7 @@ module _ (m : Model) where
     pub leads_none : (r x y : ℕ) → ((x < 256) × (y < 256) → ⊥) → leads (described m) r x y ≡ false
     leads_none r x y n = false_from_ne_true (leads (described m) r x y) (λ e. n (leads_small r x y (subst T (sym e) tt)))
 
-    pub pairs_continued : (r : ℕ) → ((k : ℕ) → k < edges_in es → PairContinued m r r (edge_at es k)) ↔ IsTransitive (described m) r
+    pub pairs_continued : (r : ℕ) → ((k : ℕ) → k < edges_in es → edge_role es k ≡ r / 2 → PairContinued m r r (edge_at es k)) ↔ IsTransitive (described m) r
     pairs_continued r = (
       (λ f x y z hx hy hz t u.
           let (i, p) = leads_out r x y t in

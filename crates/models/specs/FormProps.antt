@@ -18,10 +18,12 @@ not_both : (x y : ℕ) (Q : Type 0) → x < y → (x ≡ y) × Q → ⊥
 not_both x y Q l e = below_irrefl y (subst (λ z. z < y) e.0 l)
 
 PairBefore-prop : (x y x' y' : ℕ) → IsProp (PairBefore x y x' y')
-PairBefore-prop x y x' y' = either_prop (Prim.hlevel logic.props) (Prim.hlevel logic.props) (not_both x x' (y < y'))
+PairBefore-prop x y x' y' =
+    either_prop (Prim.hlevel logic.props) (Prim.hlevel logic.props) (not_both x x' (y < y'))
 
 TripleBefore-prop : (r x y r' x' y' : ℕ) → IsProp (TripleBefore r x y r' x' y')
-TripleBefore-prop r x y r' x' y' = either_prop (Prim.hlevel logic.props) (Prim.hlevel (logic.props, PairBefore-prop)) (not_both r r' (PairBefore x y x' y'))
+TripleBefore-prop r x y r' x' y' =
+    either_prop (Prim.hlevel logic.props) (Prim.hlevel (logic.props, PairBefore-prop)) (not_both r r' (PairBefore x y x' y'))
 
 pub WellFormed-prop : (m : Model) → IsProp (WellFormed m)
 WellFormed-prop m = Prim.hlevel (logic.props, PairBefore-prop, TripleBefore-prop)

@@ -39,11 +39,13 @@ edge_at es i = record { role_name = edge_role es i; from = edge_from es i; to = 
 -- the chunks are the bytes of the marks, and of the edges, each by itself
 pub record AreMarks (ms : List ℕ) (chunks : List (List ℕ)) : Type 0 where
   pub many : length chunks ≡ marks_in ms
-  pub reads : (k : ℕ) (d : List ℕ) → k < marks_in ms → mark_at (slice_index_or chunks k d) 0 ≡ mark_at ms k
+  pub reads : (k : ℕ) (d : List ℕ) → k < marks_in ms
+      → mark_at (slice_index_or chunks k d) 0 ≡ mark_at ms k
 
 pub record AreEdges (es : List ℕ) (chunks : List (List ℕ)) : Type 0 where
   pub many : length chunks ≡ edges_in es
-  pub reads : (k : ℕ) (d : List ℕ) → k < edges_in es → edge_at (slice_index_or chunks k d) 0 ≡ edge_at es k
+  pub reads : (k : ℕ) (d : List ℕ) → k < edges_in es
+      → edge_at (slice_index_or chunks k d) 0 ≡ edge_at es k
 
 -- the lexicographic order of pairs and of triples
 abbrev pub PairBefore : ℕ → ℕ → ℕ → ℕ → Type 0
@@ -56,14 +58,16 @@ TripleBefore r x y r' x' y' = (r < r') ⊎ ((r ≡ r') × PairBefore x y x' y')
 pub record GoodMark (ms : List ℕ) (n i : ℕ) : Type 0 where
   pub element_in_range : mark_element ms i < n
   pub name_in_range : mark_name ms i < 1024
-  pub mark_rises : 0 < i → PairBefore (mark_element ms (i - 1)) (mark_name ms (i - 1)) (mark_element ms i) (mark_name ms i)
+  pub mark_rises : 0 < i
+      → PairBefore (mark_element ms (i - 1)) (mark_name ms (i - 1)) (mark_element ms i) (mark_name ms i)
 
 -- edge i is in range in a model of n elements, and above the one before
 pub record GoodEdge (es : List ℕ) (n i : ℕ) : Type 0 where
   pub role_in_range : edge_role es i < 64
   pub from_in_range : edge_from es i < n
   pub to_in_range : edge_to es i < n
-  pub edge_rises : 0 < i → TripleBefore (edge_role es (i - 1)) (edge_from es (i - 1)) (edge_to es (i - 1)) (edge_role es i) (edge_from es i) (edge_to es i)
+  pub edge_rises : 0 < i
+      → TripleBefore (edge_role es (i - 1)) (edge_from es (i - 1)) (edge_to es (i - 1)) (edge_role es i) (edge_from es i) (edge_to es i)
 
 -- whether the mark (e, a) is listed
 abbrev pub marked : List ℕ → ℕ → ℕ → Bool
@@ -71,7 +75,8 @@ marked ms a e = some_below (marks_in ms) (λ i. (mark_name ms i == a) && mark_el
 
 -- whether the edge (r, x, y) is listed
 abbrev pub joined : List ℕ → ℕ → ℕ → ℕ → Bool
-joined es r x y = some_below (edges_in es) (λ i. (edge_role es i == r) && (edge_from es i == x && edge_to es i == y))
+joined es r x y =
+    some_below (edges_in es) (λ i. (edge_role es i == r) && (edge_from es i == x && edge_to es i == y))
 
 -- the ends of an edge along a role of its name, which may be the inverse
 abbrev pub source : ℕ → Edge → ℕ

@@ -2,6 +2,8 @@ pub mod Firsts
 pub mod Items
 pub mod Models
 pub mod FormProps
+pub mod EdgeParts
 pub mod Pairs
 pub mod Evaluation
+pub mod Tables
 pub mod Judging

@@ -28,13 +28,17 @@ pub record WellFormed (m : Model) : Type 0 where
   pub good_marks : FirstBadMark m None
   pub good_edges : FirstBadEdge m None
 
--- where a model is wrong first: 0 for its numbers, counts and lengths, from 1 up for its marks and then its edges
+-- where a model is wrong first: 0 for its numbers, counts and lengths, from 1 up for its marks and
+-- then its edges
 pub data FirstFlaw (m : Model) : ℕ → Type 0 where
   not_sized : (Sized m → ⊥) → FirstFlaw m 0
   bad_mark : {i : ℕ} → Sized m → FirstBadMark m (Some i) → FirstFlaw m (1 + i)
-  bad_edge : {i : ℕ} → Sized m → FirstBadMark m None → FirstBadEdge m (Some i) → FirstFlaw m (1 + m.mark_count + i)
+  bad_edge : {i : ℕ} → Sized m → FirstBadMark m None → FirstBadEdge m (Some i)
+      → FirstFlaw m (1 + m.mark_count + i)
 
--- The interpretation that a model describes: its elements are numbered from 0, an element is in a name exactly if the
--- mark is listed, and a role name leads from one to another exactly if the edge is.
+-- The interpretation that a model describes: its elements are numbered from 0, an element is in a
+-- name exactly if the mark is listed, and a role name leads from one to another exactly if the edge
+-- is.
 abbrev pub described : Model → Interpretation
-described m = record { last = m.size - 1; named = λ a e. marked m.marks.now a e; linked = λ r x y. joined m.edges.now r x y }
+described m =
+    record { last = m.size - 1; named = λ a e. marked m.marks.now a e; linked = λ r x y. joined m.edges.now r x y }

@@ -1,5 +1,5 @@
 -- The pairs of a role in a table, and what a role axiom asks of each edge.
-use Rattle.std.specs.Prelude.{◌≡◌, ℕ, ◌/◌, ◌<◌, T, List}
+use Rattle.std.specs.Prelude.{◌≡◌, ℕ, ◌<◌, T, List}
 use denote.Struct.Props as logic
 use Rattle.bits.specs.Bits.{bit, has}
 use Rattle.rows.specs.Rows.{contains}
@@ -29,10 +29,10 @@ Tabled-prop m r table = Prim.hlevel logic.props
 abbrev pub LeadsOn : Interpretation → ℕ → ℕ → ℕ → Type 0
 LeadsOn I r x y = (z : ℕ) → z < 256 → Leads I r y z → Leads I r x z
 
--- an edge, if it is a pair of role r, is a pair of role s
+-- an edge, as a pair of role r, is a pair of role s
 abbrev pub PairIncluded : Model → ℕ → ℕ → Edge → Type 0
-PairIncluded m r s e = e.role_name ≡ r / 2 → Leads (described m) s (source r e) (target r e)
+PairIncluded m r s e = Leads (described m) s (source r e) (target r e)
 
--- an edge, if it is a pair of role r, goes on by role s in one step
+-- an edge, as a pair of role r, goes on by role s in one step
 abbrev pub PairContinued : Model → ℕ → ℕ → Edge → Type 0
-PairContinued m r s e = e.role_name ≡ r / 2 → LeadsOn (described m) s (source r e) (target r e)
+PairContinued m r s e = LeadsOn (described m) s (source r e) (target r e)

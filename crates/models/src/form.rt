@@ -2,8 +2,10 @@ ghost use Rattle.std.specs.Prelude.{◌≡◌, ◌<◌, T, ◌↔◌, MatchResul
 ghost use Rattle.models.specs.Items.{marks_in, edges_in, GoodMark, GoodEdge};
 ghost use Rattle.models.specs.Models.{Sized, FirstBadMark, FirstBadEdge, WellFormed, FirstFlaw};
 ghost use Rattle.models.specs.FormProps.{WellFormed-prop};
+ghost use Rattle.models.specs.EdgeParts.{AllBegin, AllBegin-prop};
 
 use crate::Model;
+use crate::edge_parts::edge_starts;
 use logic::concept::NAMES;
 use logic::role::ROLE_NAMES;
 
@@ -15,18 +17,22 @@ const MOST_MARKS: u16 = 4096;
 
 const MOST_EDGES: usize = 4096;
 
-// A model that is well formed.
+// A model that is well formed, with the place where the edges of each role name begin.
 #[derive(Clone, Copy)]
 pub(crate) struct Formed<'m> {
     pub(crate) model: &'m Model<'m>,
+    pub(crate) starts: [usize; 65],
     ghost formed: { WellFormed model.now } by { WellFormed-prop model.now },
+    ghost begin: { AllBegin model.now.edges.now starts } by { AllBegin-prop
+        model.now.edges.now starts },
 }
 
 impl<'m> Formed<'m> {
-    // The model, or the place where it is wrong first, which is the place of the refusal. What is found is the error, and
-    // `map_or(Ok(()), ..)?` is no plainer than an `if let`.
+    // The model, or the place where it is wrong first, which is the place of the refusal. What is
+    // found is the error, and `map_or(Ok(()), ..)?` is no plainer than an `if let`.
     pub(crate) fn new(model: &'m Model<'m>) -> Result<Formed<'m>, usize>
-        ensures { MatchResult result (λ formed. formed.model.now ≡ model.now) (λ place. FirstFlaw model.now place) }
+        ensures { MatchResult result
+            (λ formed. formed.model.now ≡ model.now) (λ place. FirstFlaw model.now place) }
     {
         if !is_sized(model) {
             return Err(0);
@@ -37,7 +43,8 @@ impl<'m> Formed<'m> {
         if let Some(i) = first_bad_edge(model) {
             return Err(1 + model.mark_count as usize + i);
         }
-        Ok(Formed { model })
+        let starts = edge_starts(model);
+        Ok(Formed { model, starts })
     }
 }
 
@@ -56,8 +63,8 @@ fn is_sized(model: &Model) -> bool
         && edges.len() / 6 <= MOST_EDGES
 }
 
-// Marks and edges are tested by functions of their own, as they are read. They go by number, since each is set beside the
-// one before.
+// Marks and edges are tested by functions of their own, as they are read. They go by number, since
+// each is set beside the one before.
 
 // Whether mark `i` is in range, and above the one before.
 fn is_good_mark(model: &Model, i: usize) -> bool

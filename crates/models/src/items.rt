@@ -58,8 +58,9 @@ impl Edge {
     }
 }
 
-// Marks and edges are read by functions of their own. One over both would be a trait over the number of their bytes, with
-// their fields, their order and its laws as ghost members, and longer than the two.
+// Marks and edges are read by functions of their own. One over both would be a trait over the
+// number of their bytes, with their fields, their order and its laws as ghost members, and longer
+// than the two.
 impl<'f> Model<'f> {
     // Its marks, each as its bytes.
     pub(crate) fn mark_chunks(&self) -> &'f [[u8; 4]]

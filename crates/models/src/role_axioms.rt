@@ -10,18 +10,18 @@ use crate::items::Edge;
 use crate::pairs::Pairs;
 use logic::role::RoleAxiom;
 
-// Whether an edge, if it is a pair of role `r`, is one of these pairs.
+// Whether an edge, as a pair of role `r`, is one of these pairs.
 fn is_pair_included(pairs: &Pairs, r: u16, edge: Edge) -> bool
     ensures { T result ↔ PairIncluded pairs.now.formed.model.now r pairs.now.role edge }
 {
-    edge.role_name != r / 2 || pairs.has(edge.source(r), edge.target(r))
+    pairs.has(edge.source(r), edge.target(r))
 }
 
-// Whether an edge, if it is a pair of role `r`, goes on by these pairs in one step.
+// Whether an edge, as a pair of role `r`, goes on by these pairs in one step.
 fn is_pair_continued(pairs: &Pairs, r: u16, edge: Edge) -> bool
     ensures { T result ↔ PairContinued pairs.now.formed.model.now r pairs.now.role edge }
 {
-    edge.role_name != r / 2 || pairs.leads_on(edge.source(r), edge.target(r))
+    pairs.leads_on(edge.source(r), edge.target(r))
 }
 
 impl Formed<'_> {
@@ -30,8 +30,7 @@ impl Formed<'_> {
         ensures { T result ↔ Includes (described self.now.model.now) r s }
     {
         let pairs = Pairs::of(*self, s);
-        self.model
-            .edge_chunks()
+        self.edges_of(r / 2)
             .iter()
             .all(|bytes| is_pair_included(&pairs, r, Edge::from(*bytes)))
     }
@@ -41,7 +40,7 @@ impl Formed<'_> {
         ensures { T result ↔ IsTransitive (described self.now.model.now) role }
     {
         let pairs = Pairs::of(*self, role);
-        self.model.edge_chunks().iter().all(|bytes| is_pair_continued(
+        self.edges_of(role / 2).iter().all(|bytes| is_pair_continued(
             &pairs,
             role,
             Edge::from(*bytes),

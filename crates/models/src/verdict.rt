@@ -1,14 +1,17 @@
-ghost use Rattle.std.specs.Prelude.{◌≡◌, ◌*◌, ◌<◌, ◌≤◌, min, true, T, ◌↔◌, length, slice_index};
+ghost use Rattle.std.specs.Prelude.{◌≡◌, ◌*◌, ◌<◌, ◌≤◌, true, T, ◌↔◌, length, slice_index};
 ghost use Rattle.bits.specs.Bits.{has};
 ghost use Rattle.rows.specs.Rows.{contains};
 ghost use Rattle.models.specs.Firsts.{First};
-ghost use Rattle.models.specs.Evaluation.{RowIsFull};
+ghost use Rattle.models.specs.Evaluation.{RowIsFull, IsFullRow};
 
-use bits::has;
-use rows::contains;
+use crate::pairs::is_within;
+use bits::{has, low_bits};
+use rows::{contains, row};
+use std::array;
+use vocabulary::MOST_CONCEPTS;
 
-// The extensions of the first `count` concepts in a model of `size` elements: row c has the elements of concept c. The
-// count is not the memory's, which may be longer.
+// The extensions of the first `count` concepts in a model of `size` elements: row c has the
+// elements of concept c. The count is not the memory's, which may be longer.
 #[derive(Clone, Copy)]
 pub(crate) struct Extensions<'r> {
     pub(crate) rows: &'r [u64],
@@ -18,28 +21,38 @@ pub(crate) struct Extensions<'r> {
     ghost few: { size ≤ 256 },
 }
 
+// The row of the first `n` elements.
+fn full_row(n: usize) -> [u64; 4]
+    ensures { IsFullRow n result }
+{
+    array::from_fn(|w| low_bits(n.saturating_sub(64 * w)))
+}
+
 impl Extensions<'_> {
-    // Whether row `c` has every element.
+    // Whether row `c` has every element, by its words.
     fn is_full(&self, c: usize) -> bool
         requires { c < self.now.count }
         ensures { T result ↔ RowIsFull self.now.rows.now self.now.size c }
     {
-        (0..self.size as usize).all(|e| contains(self.rows, c, e))
+        is_within(full_row(self.size as usize), row(self.rows, c))
     }
 
-    // The first axiom that some element misses.
+    // The first axiom that some element misses. Every element misses one that does not stand.
     pub(crate) fn first_missed(&self, axioms: &[u16]) -> Option<usize>
-        ensures { First (λ k. (slice_index axioms.now k < self.now.count) × RowIsFull self.now.rows.now self.now.size (slice_index axioms.now k)) (length axioms.now) result }
+        ensures { First (λ k. (slice_index axioms.now k < self.now.count)
+            × RowIsFull self.now.rows.now self.now.size (slice_index axioms.now k))
+            (length axioms.now) result }
     {
         axioms.iter().position(|c| *c as usize >= self.count || !self.is_full(*c as usize))
     }
 
-    // The least concept of the label that the point misses.
+    // The least concept of the label that the point misses. It misses each that does not stand.
     pub(crate) fn least_missed(&self, label: &[u64], point: u16) -> Option<u16>
         requires { point < self.now.size }
-        ensures { First (λ c. has label.now c ≡ true → T (contains self.now.rows.now c point)) (min self.now.count 1024) result }
+        ensures { First (λ c. has label.now c ≡ true
+            → (c < self.now.count) × T (contains self.now.rows.now c point)) 1024 result }
     {
-        (0..self.count.min(1024) as u16).find(|c| has(label, *c as usize)
-            && !contains(self.rows, *c as usize, point as usize))
+        (0..MOST_CONCEPTS as u16).find(|c| has(label, *c as usize)
+            && (*c as usize >= self.count || !contains(self.rows, *c as usize, point as usize)))
     }
 }

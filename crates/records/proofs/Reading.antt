@@ -17,7 +17,8 @@ Given r frames = Drains (λ r frame s. Next r s frame) r frames
 
 -- a frame before the others
 one_frame : (r s : Reader) (frame : Frame) (is : List ℕ) → Next r s (Some frame) → Lies s.file.now s.at is → Lies r.file.now r.at (frame.offset ∷ is)
-one_frame r s frame is (below, offset, kind, content, file, at) rest = rw offset (behind {is = is} below (rw (sym at, sym file) rest))
+one_frame r s frame is (below, offset, kind, content, after) rest =
+    rw offset (behind {is = is} below (subst (λ (x : Reader). Lies x.file.now x.at is) after rest))
 
 -- they are the records from the reader's place on
 pub given_lie : (r : Reader) (frames : List Frame) → Given r frames → Lies r.file.now r.at (offsets frames)

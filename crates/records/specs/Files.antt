@@ -21,7 +21,9 @@ abbrev pub together : List ℕ → List ℕ → List ℕ
 together f [] = []
 together f (i ∷ is) = bytes_of f i ++ together f is
 
--- Every file has one list of records, so that reading it ends, and together they are the file: nothing is skipped, and
--- nothing is read twice.
+-- Every file has one list of records, so that reading it ends, and together they are the file:
+-- nothing is skipped, and nothing is read twice.
 abbrev pub FilesAreTheirRecords : Type 0
-FilesAreTheirRecords = (f : List ℕ) → (is : List ℕ) × Lies f 0 is × ((js : List ℕ) → Lies f 0 js → js ≡ is) × (together f is ≡ f)
+FilesAreTheirRecords =
+    (f : List ℕ) → (is : List ℕ) × Lies f 0 is × ((js : List ℕ) → Lies f 0 js → js ≡ is)
+    × (together f is ≡ f)

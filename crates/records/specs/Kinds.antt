@@ -19,7 +19,9 @@ number_of CloseInhabited = 10
 
 -- the result is the kind with this number, or an error with a number that no kind has
 abbrev pub DecodesKind : ℕ → Result Kind UnknownKind → Type 0
-DecodesKind number r = MatchResult r (λ kind. number_of kind ≡ number) (λ e. (e.0 ≡ number) × ((number ≡ 0) ⊎ (10 < number)))
+DecodesKind number r =
+    MatchResult r (λ kind. number_of kind ≡ number)
+    (λ e. (e.0 ≡ number) × ((number ≡ 0) ⊎ (10 < number)))
 
 -- the body of a record of this kind can have n bytes
 abbrev pub CanHave : Kind → ℕ → Type 0

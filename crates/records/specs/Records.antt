@@ -18,7 +18,7 @@
 -- extends to the end of the file.
 use Rattle.std.specs.Prelude.{◌≡◌, ℕ, ◌+◌, ◌-◌, ◌*◌, ◌%◌, ◌<◌, ◌≤◌, min, cond, List, length, Some, None, Ok, Err, Option, Result, nat_le}
 use Rattle.refusals.specs.declared.Refusal.{Refusal}
-use Rattle.refusals.specs.declared.Refusal.TheVariants.{Malformed}
+use Rattle.refusals.specs.Table.{returned}
 use Rattle.records.specs.declared.record.Record.{Record}
 use Rattle.records.specs.declared.record.Record.TheVariants.{Inclusion, Transitivity, Concept, Pair, Axiom, Seal, Line, Claim, CloseEmpty, CloseInhabited}
 use Rattle.records.specs.declared.record.Frame.{Frame}
@@ -41,35 +41,47 @@ Whole f i = i + 4 + size_at f i ≤ length f
 abbrev pub end_of : List ℕ → ℕ → ℕ
 end_of f i = min (i + 4 + size_at f i) (length f)
 
--- How many bytes of a record that closes as inhabited are marks. A mark has 4 bytes and an edge 6; the marks are as many as
--- the record counts, or what is left after the first 8 bytes of the body, and all the rest of the body is edges.
+-- How many bytes of a record that closes as inhabited are marks. A mark has 4 bytes and an edge 6;
+-- the marks are as many as the record counts, or what is left after the first 8 bytes of the body,
+-- and all the rest of the body is edges.
 abbrev pub marks_at : List ℕ → ℕ → ℕ
 marks_at f i = min (4 * word f (i + 10)) (size_at f i - 8)
 
--- The record at i is whole, it has this kind and a body length that the kind can have, and its parts are these bytes of
--- the file.
+-- The record at i is whole, it has this kind and a body length that the kind can have, and its
+-- parts are these bytes of the file.
 abbrev pub LiesAt : List ℕ → ℕ → Record → Type 0
-LiesAt f i (Inclusion body) = Whole f i × (kind_at f i ≡ 1) × (size_at f i ≡ 4) × (body.now ≡ part f (i + 4) 4)
-LiesAt f i (Transitivity body) = Whole f i × (kind_at f i ≡ 2) × (size_at f i ≡ 2) × (body.now ≡ part f (i + 4) 2)
-LiesAt f i (Concept body) = Whole f i × (kind_at f i ≡ 3) × (size_at f i ≡ 6) × (body.now ≡ part f (i + 4) 6)
-LiesAt f i (Pair body) = Whole f i × (kind_at f i ≡ 4) × (size_at f i ≡ 4) × (body.now ≡ part f (i + 4) 4)
-LiesAt f i (Axiom body) = Whole f i × (kind_at f i ≡ 5) × (size_at f i ≡ 2) × (body.now ≡ part f (i + 4) 2)
+LiesAt f i (Inclusion body) =
+    Whole f i × (kind_at f i ≡ 1) × (size_at f i ≡ 4) × (body.now ≡ part f (i + 4) 4)
+LiesAt f i (Transitivity body) =
+    Whole f i × (kind_at f i ≡ 2) × (size_at f i ≡ 2) × (body.now ≡ part f (i + 4) 2)
+LiesAt f i (Concept body) =
+    Whole f i × (kind_at f i ≡ 3) × (size_at f i ≡ 6) × (body.now ≡ part f (i + 4) 6)
+LiesAt f i (Pair body) =
+    Whole f i × (kind_at f i ≡ 4) × (size_at f i ≡ 4) × (body.now ≡ part f (i + 4) 4)
+LiesAt f i (Axiom body) =
+    Whole f i × (kind_at f i ≡ 5) × (size_at f i ≡ 2) × (body.now ≡ part f (i + 4) 2)
 LiesAt f i Seal = Whole f i × (kind_at f i ≡ 6) × (size_at f i ≡ 0)
-LiesAt f i (Line body members) = Whole f i × (kind_at f i ≡ 7) × (12 ≤ size_at f i) × (size_at f i % 2 ≡ 0)
+LiesAt f i (Line body members) =
+    Whole f i × (kind_at f i ≡ 7) × (12 ≤ size_at f i) × (size_at f i % 2 ≡ 0)
     × (body.now ≡ part f (i + 4) 12) × (members.now ≡ part f (i + 16) (size_at f i - 12))
-LiesAt f i (Claim members) = Whole f i × (kind_at f i ≡ 8) × (size_at f i % 2 ≡ 0) × (members.now ≡ part f (i + 4) (size_at f i))
-LiesAt f i (CloseEmpty body) = Whole f i × (kind_at f i ≡ 9) × (size_at f i ≡ 4) × (body.now ≡ part f (i + 4) 4)
-LiesAt f i (CloseInhabited body marks edges) = Whole f i × (kind_at f i ≡ 10) × (8 ≤ size_at f i) × (size_at f i % 2 ≡ 0)
+LiesAt f i (Claim members) =
+    Whole f i × (kind_at f i ≡ 8) × (size_at f i % 2 ≡ 0) × (members.now ≡ part f (i + 4) (size_at f i))
+LiesAt f i (CloseEmpty body) =
+    Whole f i × (kind_at f i ≡ 9) × (size_at f i ≡ 4) × (body.now ≡ part f (i + 4) 4)
+LiesAt f i (CloseInhabited body marks edges) =
+    Whole f i × (kind_at f i ≡ 10) × (8 ≤ size_at f i) × (size_at f i % 2 ≡ 0)
     × (body.now ≡ part f (i + 4) 8) × (marks.now ≡ part f (i + 12) (marks_at f i))
     × (edges.now ≡ part f (i + 12 + marks_at f i) (size_at f i - 8 - marks_at f i))
 
 -- The record at i: well-formed, or no record can stand there, and it is malformed.
 abbrev pub Content : List ℕ → ℕ → Result Record Refusal → Type 0
 Content f i (Ok x) = LiesAt f i x
-Content f i (Err e) = (e ≡ Malformed i) × ((x : Record) → LiesAt f i x → ⊥)
+Content f i (Err e) = (returned e ≡ (1, i)) × ((x : Record) → LiesAt f i x → ⊥)
 
--- Reader r answers and becomes s: it gives the record where it stands and goes on after it, until the file ends.
+-- Reader r answers and becomes s: it gives the record where it stands and goes on after it, until
+-- the file ends.
 abbrev pub Next : Reader → Reader → Option Frame → Type 0
 Next r s None = (length r.file.now ≤ r.at) × (s ≡ r)
-Next r s (Some frame) = (r.at < length r.file.now) × (frame.offset ≡ r.at) × (frame.kind ≡ kind_at r.file.now r.at)
-    × Content r.file.now r.at frame.content × (s.file ≡ r.file) × (s.at ≡ end_of r.file.now r.at)
+Next r s (Some frame) =
+    (r.at < length r.file.now) × (frame.offset ≡ r.at) × (frame.kind ≡ kind_at r.file.now r.at)
+    × Content r.file.now r.at frame.content × (s ≡ record r { at = end_of r.file.now r.at })

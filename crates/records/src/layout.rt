@@ -22,7 +22,8 @@ pub(crate) fn extent(rest: &[u8]) -> usize
     (4 + word(rest, 0) as usize).min(rest.len())
 }
 
-// The record, unless it is malformed: cut off, of an unknown kind, or of a length that its kind can't have.
+// The record, unless it is malformed: cut off, of an unknown kind, or of a length that its kind
+// can't have.
 pub(crate) fn content(rest: &[u8]) -> Option<Record<'_>>
     ensures { MatchOption result ((x : Record) → LiesAt rest.now 0 x → ⊥) (LiesAt rest.now 0) }
 {

@@ -44,8 +44,9 @@ pub enum Record<'f> {
     },
 }
 
-/// A record as it lies in the file: where it begins, which kind it has, and what it is, if it is well-formed. The kind is the
-/// number that stands there, also one that no kind has; 0 if the head is cut off.
+/// A record as it lies in the file: where it begins, which kind it has, and what it is, if it is
+/// well-formed. The kind is the number that stands there, also one that no kind has; 0 if the head
+/// is cut off.
 #[derive(Clone, Copy)]
 pub struct Frame<'f> {
     pub offset: usize,

@@ -1,9 +1,8 @@
--- What it says that no row refuses.
-use Rattle.std.proofs.Common.{◌≡◌, ℕ, ◌<◌, ◌≤◌, Bool, true, false, not, leb, List, [], ◌∷◌, ◌++◌, Some, None, Option, sym, refl, ap, ◌∙◌, ⊎_elim, arith}
-use Rattle.std.proofs.lemmas.Bool.{cases_lt, le-leb}
+-- What it says that no check refuses.
+use Rattle.std.proofs.Common.{◌≡◌, ℕ, Bool, true, false, List, [], ◌∷◌, ◌++◌, Some, None, Option, refl, ap, ◌∙◌, arith}
 use Rattle.refusals.specs.Checks.{when, otherwise, first}
 
--- no row refuses
+-- no check refuses
 abbrev pub Clear : {A : Type 0} → List (Option A) → Type 0
 Clear [] = Unit {0}
 Clear (x ∷ xs) = (x ≡ None) × Clear xs
@@ -27,7 +26,7 @@ when_none false x h = refl
 pub none_when : {A : Type 0} (b : Bool) (x : A) → b ≡ false → when b x ≡ None
 none_when b x h = ap (λ c. when c x) h
 
--- rows after others
+-- checks after others
 pub first_append : {A : Type 0} (xs ys : List (Option A)) → first (xs ++ ys) ≡ otherwise (first xs) (first ys)
 first_append [] ys = refl
 first_append (None ∷ xs) ys = first_append xs ys

@@ -1,5 +1,9 @@
--- A call checks one thing after another, in the order of its table, and returns the first refusal that it meets.
-use Rattle.std.specs.Prelude.{◌≡◌, Bool, true, false, List, [], ◌∷◌, Some, None, Ok, Err, Option, Result}
+-- A call checks one thing after another, in the order of the table of refusals, and returns the
+-- first refusal that it meets. A check is written as the table has it: the condition, then the
+-- number and the place, as `when (nat_le 128 r) (3, 0)`.
+use Rattle.std.specs.Prelude.{◌≡◌, ℕ, Bool, true, false, List, [], ◌∷◌, Some, None, Ok, Err, Option, Result}
+use Rattle.refusals.specs.declared.Refusal.{Refusal}
+use Rattle.refusals.specs.Table.{returned}
 
 -- x, if the test is met
 abbrev pub when : {A : Type 0} → Bool → A → Option A
@@ -21,7 +25,13 @@ abbrev pub with : {A B : Type 0} → (A → B) → Option A → Option B
 with f None = None
 with f (Some x) = Some (f x)
 
--- checks are passed if none refuses; else the first that does is returned
-abbrev pub Passed : {A : Type 0} → List (Option A) → Result (Unit {0}) A → Type 0
+-- checks are passed if none refuses; else the first that does is returned, by the table's number
+-- and place
+abbrev pub Passed : List (Option (ℕ × ℕ)) → Result (Unit {0}) Refusal → Type 0
 Passed checks (Ok u) = first checks ≡ None
-Passed checks (Err x) = first checks ≡ Some x
+Passed checks (Err x) = first checks ≡ Some (returned x)
+
+-- an answer is right if it is what R says of it; a refusal is of the first check that refuses
+abbrev pub Answered : {A : Type 0} → List (Option (ℕ × ℕ)) → (A → Type 0) → Result A Refusal → Type 0
+Answered checks R (Ok x) = (first checks ≡ None) × R x
+Answered checks R (Err x) = first checks ≡ Some (returned x)

@@ -1,4 +1,5 @@
--- The number and the place that each refusal is returned as. Every contract speaks of refusals through this table.
+-- The number and the place that each refusal is returned as. Every contract speaks of refusals
+-- through this table.
 use Rattle.std.specs.Prelude.{ℕ}
 use Rattle.refusals.specs.declared.Refusal.{Refusal}
 use Rattle.refusals.specs.declared.Refusal.TheVariants.{Malformed, Phase, Range, Absent, Full, Order, Unpaired, Inapplicable, Unlicensed, Closed, Outside, Model, RoleAxiom, Axiom, Point}

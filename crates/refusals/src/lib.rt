@@ -9,7 +9,8 @@ ghost use Rattle.refusals.specs.Table.{returned};
 /// Field positions count from 0; supplied memory has the position after the last field.
 #[derive(Clone, Copy, Debug, PartialEq, Eq)]
 pub enum Refusal {
-    // The record at this offset has an unknown kind, a length that its kind can't have, or is cut off.
+    // The record at this offset has an unknown kind, a length that its kind can't have, or is cut
+    // off.
     Malformed(usize),
     // Not in this phase.
     Phase,
@@ -31,7 +32,8 @@ pub enum Refusal {
     Closed(u16),
     // This concept of the line lies outside the claim's label.
     Outside(u16),
-    // The model is wrong: 0 for its numbers and lengths, from 1 up for its marks and then its edges.
+    // The model is wrong: 0 for its numbers and lengths, from 1 up for its marks and then its
+    // edges.
     Model(usize),
     // The model breaks the role axiom of this index.
     RoleAxiom(usize),

@@ -4,10 +4,12 @@ use mathlib.Core.Bool.{or-false, or_comm}
 use Rattle.std.proofs.lemmas.Bool.{cases_lt, and_parts, and_left, and_right, lt-ltb, le-ltb, le-leb, leb-true}
 use Rattle.bits.specs.Bits.{has, inserted}
 use Rattle.bits.proofs.BitFacts.{has_past}
+use Rattle.logic.specs.Theories.{Theory}
 use Rattle.labels.specs.Labels.{Row, next_from}
 use Rattle.labels.proofs.LeastFacts.{least_all, least_some}
 use Rattle.labels.proofs.RowFacts.{inserted_has}
 use Rattle.bits.specs.Below.{some_below}
+use Rattle.schemas.specs.House.{gives}
 use Rattle.bits.proofs.SomeBelow.{some_none, some_rest, some_more}
 
 -- one number put into a row of sixteen words
@@ -34,19 +36,19 @@ pub put_both : (row mid new : List ℕ) (first second : ℕ → Bool) → ((c : 
 put_both row mid new first second a b c =
     b c ∙ ap (λ z. z || (ltb c 1024 && second c)) (a c) ∙ twice (has row c) (ltb c 1024) (first c) (second c)
 
--- where the walk starts
-pub walk_starts : (row new : List ℕ) (m : ℕ) (f : ℕ → ℕ → Bool) → length row ≡ 16 → length new ≡ 16 → new ≡ inserted row m
-    → Row new (λ k. (eqb m k || has row k) || some_below 0 (f k))
-walk_starts row new m f size size' e = (
+-- where the walk starts: a row that has what passes the test s, with one number put in
+pub walk_starts : (row new : List ℕ) (m : ℕ) (s : ℕ → Bool) (f : ℕ → ℕ → Bool) → length row ≡ 16 → length new ≡ 16
+    → ((k : ℕ) → k < 1024 → has row k ≡ s k) → new ≡ inserted row m → Row new (λ k. (eqb m k || s k) || some_below 0 (f k))
+walk_starts row new m s f size size' same e = (
   size',
   λ k. has_put row new m size e k ∙ ⊎_elim (inside k) (past k) (cases_lt k 1024)
-      ∙ sym (ap (λ z. ltb k 1024 && z) (ap (λ z. (eqb m k || has row k) || z) (some_none (f k)) ∙ or-false (eqb m k || has row k))),
+      ∙ sym (ap (λ z. ltb k 1024 && z) (ap (λ z. (eqb m k || s k) || z) (some_none (f k)) ∙ or-false (eqb m k || s k))),
 )
   where
-    inside : (k : ℕ) → k < 1024 → (has row k || (ltb k 1024 && eqb m k)) ≡ (ltb k 1024 && (eqb m k || has row k))
-    inside k l = rw (lt-ltb k 1024 l) (or_comm (has row k) (eqb m k))
+    inside : (k : ℕ) → k < 1024 → (has row k || (ltb k 1024 && eqb m k)) ≡ (ltb k 1024 && (eqb m k || s k))
+    inside k l = rw (lt-ltb k 1024 l, same k l) (or_comm (s k) (eqb m k))
 
-    past : (k : ℕ) → 1024 ≤ k → (has row k || (ltb k 1024 && eqb m k)) ≡ (ltb k 1024 && (eqb m k || has row k))
+    past : (k : ℕ) → 1024 ≤ k → (has row k || (ltb k 1024 && eqb m k)) ≡ (ltb k 1024 && (eqb m k || s k))
     past k l = rw (le-ltb k 1024 l) (or-false (has row k) ∙ has_past row k (omega arith))
 
 joined : (b s t g : Bool) → ((b && (s || t)) || (b && g)) ≡ (b && (s || (t || g)))
@@ -96,3 +98,26 @@ module _ (x : List ℕ) (from : ℕ) where
 
   pub next_is : (d : ℕ) → next_from x from ≡ Some d → (d < 1024) × (from ≤ d)
   next_is d h = let t = next_at d h in (t.0, t.1)
+
+-- two bounds give the same, if nothing from either on passes the test
+same_bounds : (m n : ℕ) (f : ℕ → Bool) → ((k : ℕ) → m ≤ k → f k ≡ false) → ((k : ℕ) → n ≤ k → f k ≡ false)
+    → some_below m f ≡ some_below n f
+same_bounds m n f p q = ⊎_elim
+    (λ (l : m < n). sym (some_rest m n f (omega arith) (λ k a b. p k a)))
+    (λ (l : n ≤ m). some_rest n m f l (λ k a b. q k a))
+    (cases_lt m n)
+
+-- a concept that doesn't stand gives nothing
+none_given : (t : Theory) (r d c : ℕ) → length t.concepts ≤ d → gives t r d c ≡ false
+none_given t r d c l = rw (le-ltb d (length t.concepts) l) refl
+
+-- what the members of a label give, the standing ones give
+pub what_stands : (t : Theory) (x : List ℕ) (r : ℕ) (row : List ℕ) (start : ℕ → Bool) → length x ≡ 16
+    → Row row (λ k. start k || some_below 1024 (λ d. has x d && gives t r d k))
+    → Row row (λ k. start k || some_below (length t.concepts) (λ d. has x d && gives t r d k))
+what_stands t x r row start size (sixteen, all) = (
+  sixteen,
+  λ k. all k ∙ ap (λ z. ltb k 1024 && (start k || z)) (same_bounds 1024 (length t.concepts) (λ d. has x d && gives t r d k)
+      (λ d l. and_left (has x d) (gives t r d k) (has_past x d (omega arith)))
+      (λ d l. and_right (has x d) (gives t r d k) (none_given t r d k l))),
+)

@@ -6,20 +6,21 @@ use labels::rows::next_from;
 
 // The members of a row from `from` upward, the least first.
 #[derive(Drop)]
-pub(crate) struct Members<'r> {
-    pub(crate) row: &'r [u64; 16],
+pub(crate) struct Members {
+    pub(crate) row: [u64; 16],
     pub(crate) from: u16,
 }
 
-impl<'r> Iterator for Members<'r> {
+impl Iterator for Members {
     type Item = u16;
 
-    ghost next_gives = { λ s r t. (r ≡ next_from s.row.now s.from) × (t.row.now ≡ s.row.now) × IfSome r (λ d. t.from ≡ d + 1) };
+    ghost next_gives = { λ s r t. (r ≡ next_from s.row s.from) × (t ≡ record s { from = t.from })
+        × IfSome r (λ d. t.from ≡ d + 1) };
 
     ghost remaining = { λ s. at_most (1024 - s.from) };
 
     fn next(&mut self) -> Option<u16> {
-        let d = next_from(self.row, self.from)?;
+        let d = next_from(&self.row, self.from)?;
         self.from = d + 1;
         Some(d)
     }

@@ -7,7 +7,8 @@ use calculus::rule::Rule;
 use logic::concept::Concept;
 use schemas::conclusion::{extended, nothing};
 
-/// Rule 5: p is in the label, "only R C", and q is "only S C", where S is below R. Conclusion: the label and q.
+/// Rule 5: p is in the label, "only R C", and q is "only S C", where S is below R. Conclusion: the
+/// label and q.
 #[derive(Default, Drop)]
 pub struct NarrowerRule;
 

@@ -1,9 +1,10 @@
-ghost use Rattle.std.specs.Prelude.{◌≡◌, ℕ, ◌&&◌, ◌||◌, ◌==◌, nat_lt, refl};
+ghost use Rattle.std.specs.Prelude.{◌≡◌, ℕ, ◌&&◌, ◌||◌, ◌==◌, length, nat_lt, refl};
+ghost use Rattle.bits.specs.Among.{among};
+ghost use Rattle.bits.specs.Below.{some_below};
 ghost use Rattle.bits.specs.Bits.{has};
 ghost use Rattle.labels.specs.Labels.{Row};
-ghost use Rattle.vocabulary.specs.Vocabularies.{is_axiom};
+ghost use Rattle.vocabulary.specs.Vocabularies.{theory};
 ghost use Rattle.schemas.specs.House.{passes, carries, gives, neighbour};
-ghost use Rattle.bits.specs.Below.{some_below};
 ghost use Rattle.schemas.proofs.Agreement.{neighbour_lawful};
 
 use crate::members::Members;
@@ -15,9 +16,11 @@ use logic::concept::Concept;
 use schemas::conclusion::nothing;
 use vocabulary::Vocabulary;
 
-// Puts into the row the concept that concept `d` of a label passes to every neighbour by role `r`, if it does.
+// Puts into the row the concept that concept `d` of a label passes to every neighbour by role `r`,
+// if it does.
 fn pass(v: &Vocabulary, r: u16, d: u16, row: &mut [u64; 16])
-    ensures { (c : ℕ) → has row.new c ≡ (has row.old c || (nat_lt c 1024 && passes v.now r d c)) }
+    ensures { (c : ℕ) → has row.new c
+        ≡ (has row.old c || (nat_lt c 1024 && passes (theory v.now) r d c)) }
 {
     if let Some(Concept::Only(s, e)) = v.concept(d)
         && s == r
@@ -28,14 +31,15 @@ fn pass(v: &Vocabulary, r: u16, d: u16, row: &mut [u64; 16])
 
 // Whether concept `d` of a label is carried to every neighbour by role `r`.
 fn carries(v: &Vocabulary, r: u16, d: u16) -> bool
-    ensures { result ≡ carries v.now r d }
+    ensures { result ≡ carries (theory v.now) r d }
 {
     matches!(v.concept(d), Some(Concept::Only(s, _)) if v.is_below(r, s) && v.is_transitive(s))
 }
 
 // Puts into the row what concept `d` of a label gives to every neighbour by role `r`.
 fn give(v: &Vocabulary, r: u16, d: u16, row: &mut [u64; 16])
-    ensures { (c : ℕ) → has row.new c ≡ (has row.old c || (nat_lt c 1024 && gives v.now r d c)) }
+    ensures { (c : ℕ) → has row.new c
+        ≡ (has row.old c || (nat_lt c 1024 && gives (theory v.now) r d c)) }
 {
     pass(v, r, d, row);
     if carries(v, r, d) {
@@ -43,14 +47,17 @@ fn give(v: &Vocabulary, r: u16, d: u16, row: &mut [u64; 16])
     }
 }
 
-// What a neighbour by role `r` has, if it is asked to have concept `c`: that, the axioms, and what the label gives.
+// What a neighbour by role `r` has, if it is asked to have concept `c`: that, the axioms, and what
+// the label gives.
 fn given(at: &Premise, r: u16, c: u16) -> [u64; 16]
-    ensures { Row result (λ k. (c == k || is_axiom at.now.vocabulary.now k) || some_below 1024 (λ d. has at.now.label.now d && gives at.now.vocabulary.now r d k)) }
+    ensures { let t = theory at.now.vocabulary.now in
+        Row result (λ k. (c == k || among t.axioms k)
+        || some_below (length t.concepts) (λ d. has at.now.label.now d && gives t r d k)) }
 {
     let mut row = at.vocabulary.axiom_row();
     insert(&mut row, c as usize);
     let members = Members {
-        row: at.label,
+        row: *at.label,
         from: 0,
     };
     for d in members {
@@ -59,8 +66,9 @@ fn given(at: &Premise, r: u16, c: u16) -> [u64; 16]
     row
 }
 
-/// Rule 10: p is in the label, "some R C". Conclusion, of a neighbour by R: C; all D with "only R D" in the label; all "only S D" in the
-/// label where R is below S and S is transitive; and all axioms.
+/// Rule 10: p is in the label, "some R C". Conclusion, of a neighbour by R: C; all D with "only R
+/// D" in the label; all "only S D" in the label where R is below S and S is transitive; and all
+/// axioms.
 #[derive(Default, Drop)]
 pub struct NeighbourRule;
 

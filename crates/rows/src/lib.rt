@@ -6,9 +6,9 @@ ghost use Rattle.rows.specs.Rows.{HasRow, contains, turned, IsRow, RowBecomes, R
 use bits::{bit, low_bits};
 use std::array;
 
-// Sets of elements, each in a row of four words. Row c has the words 4c to 4c + 3, and the elements are 0 to 255:
-// element e is bit e mod 64 of word 4c + e div 64. The words lie in one slice, and one
-// row is made of others of the same slice, so a row is a place in it.
+// Sets of elements, each in a row of four words. Row c has the words 4c to 4c + 3, and the elements
+// are 0 to 255: element e is bit e mod 64 of word 4c + e div 64. The words lie in one slice, and
+// one row is made of others of the same slice, so a row is a place in it.
 
 /// The words of row `c`.
 pub fn row(rows: &[u64], c: usize) -> [u64; 4]
@@ -59,8 +59,8 @@ pub fn intersect(rows: &mut [u64], c: usize, a: usize, b: usize)
     write(rows, c, array::from_fn(|w| x[w] & y[w]));
 }
 
-/// Row `c` becomes what the earlier rows `a` and `b` have together. One function over both operations would be a trait with
-/// an operation and its law, and longer than the two.
+/// Row `c` becomes what the earlier rows `a` and `b` have together. One function over both
+/// operations would be a trait with an operation and its law, and longer than the two.
 pub fn unite(rows: &mut [u64], c: usize, a: usize, b: usize)
     requires { (HasRow rows.old c) × ((a < c) × (b < c)) }
     ensures { RowBecomes rows.old rows.new c (λ e. contains rows.old a e || contains rows.old b e) }

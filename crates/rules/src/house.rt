@@ -14,7 +14,8 @@ use local_rules::general::GeneralRule;
 use role_rules::narrower::NarrowerRule;
 use role_rules::neighbour::NeighbourRule;
 
-// Rules 1 to 5 and rules 6 to 10, side by side. The nesting is balanced, since a proof about a bank costs more the deeper it is.
+// Rules 1 to 5 and rules 6 to 10, side by side. The nesting is balanced, since a proof about a bank
+// costs more the deeper it is.
 type FirstFive = Pair<
     Pair<Single<BottomRule>, Single<ClashRule>>,
     Pair<Single<ConjunctionRule>, Pair<Single<DisjunctionRule>, Single<NarrowerRule>>>,

@@ -46,9 +46,9 @@ pub house_is_the_table : HouseIsTheTable
 house_is_the_table = record {
   ten = λ n. (house_agrees.all_of_ten n, λ l. (ten_there n l.0 l.1).0);
   counts = λ n lo hi. (ten_there n lo hi).1;
-  steps = λ v keeps n p q s x. (house_agrees.all_steps v keeps n (record { p = p; q = q; s = s }) x, step_true v keeps x n p q s);
-  lines = λ v keeps n p q s x i c. (
-    house_agrees.all_lines v keeps n (record { p = p; q = q; s = s }) x i c,
-    λ d. line_true v keeps x n p q s i c (step_true v keeps x n p q s d.step_applies) d.stands d.lists,
+  steps = λ t n p q s X. (house_agrees.all_steps t n (record { p = p; q = q; s = s }) X, step_true t X n p q s);
+  lines = λ t n p q s X i c. (
+    house_agrees.all_lines t n (record { p = p; q = q; s = s }) X i c,
+    λ d. line_true t X n p q s i c (step_true t X n p q s d.step_applies) d.stands d.lists,
   );
 }

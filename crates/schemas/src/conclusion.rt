@@ -1,6 +1,7 @@
 ghost use Rattle.std.specs.Prelude.{◌≡◌, false, ◌&&◌, ◌||◌, length, nat_lt};
 ghost use Rattle.bits.specs.Bits.{has};
-ghost use Rattle.labels.specs.Labels.{Row, among, filled};
+ghost use Rattle.bits.specs.Among.{among};
+ghost use Rattle.labels.specs.Labels.{Row, filled};
 ghost use Rattle.vocabulary.specs.Vocabularies.{concepts};
 
 use bits::insert;
@@ -29,7 +30,8 @@ fn filled(row: &[u64; 16], added: &[u16]) -> [u64; 16]
 
 /// The standing concepts of the label, with those in `added`.
 pub fn extended(at: &Premise, added: &[u16]) -> [u64; 16]
-    ensures { Row result (λ c. nat_lt c (length (concepts at.now.vocabulary.now)) && (has at.now.label.now c || among added.now c)) }
+    ensures { Row result (λ c. nat_lt c (length (concepts at.now.vocabulary.now))
+        && (has at.now.label.now c || among added.now c)) }
 {
     cut_to(&filled(at.label, added), at.vocabulary.len())
 }

@@ -1,3 +1,3 @@
 pub mod RoleTables
-pub mod Pairings
+pub mod AxiomRows
 pub mod Keeping

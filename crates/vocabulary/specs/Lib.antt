@@ -1,6 +1,3 @@
-pub mod Roles
 pub mod Mates
-pub mod Axioms
+pub mod Tables
 pub mod Vocabularies
-pub mod Pairing
-pub mod Keeping

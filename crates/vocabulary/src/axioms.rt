@@ -1,12 +1,15 @@
-ghost use Rattle.std.specs.Prelude.{◌≡◌, [], replicate};
+ghost use Rattle.std.specs.Prelude.{◌≡◌, ℕ, ◌<◌, [], length};
+ghost use Rattle.bits.specs.Among.{among};
 ghost use Rattle.bits.specs.Bits.{has};
-ghost use Rattle.vocabulary.specs.Axioms.{AxiomAdded};
+ghost use Rattle.register.specs.Lists.{Added};
 
-use crate::MOST_AXIOMS;
+use crate::{MOST_AXIOMS, MOST_CONCEPTS};
 use bits;
 use register::bounded::Bounded;
+use std::marker::Model;
 
-/// The concepts that were filed as holding of every element.
+/// The concepts that were filed as holding of every element. Contracts see the list of them, in
+/// filing order.
 #[derive(Drop)]
 pub struct Axioms {
     list: Bounded<u16, MOST_AXIOMS>,
@@ -14,11 +17,21 @@ pub struct Axioms {
     row: [u64; 16],
 }
 
+impl Model for Axioms {
+    ghost use Rattle.std.specs.Prelude.{ℕ, List};
+    ghost use Rattle.vocabulary.specs.Tables.{RowAgrees};
+
+    ghost Value = { List ℕ };
+
+    ghost view = { λ a. a.list };
+
+    ghost invariant = { λ a. RowAgrees a.list a.row };
+}
+
 impl Axioms {
     /// No axiom.
     pub fn new() -> Axioms
-        ensures list { result.list ≡ [] }
-        ensures row { result.row ≡ replicate 16 0 }
+        ensures { result ≡ [] }
     {
         Axioms {
             list: Bounded::new(0),
@@ -28,28 +41,34 @@ impl Axioms {
 
     /// The axioms, in filing order.
     pub fn list(&self) -> &[u16]
-        ensures { result.now ≡ self.now.list }
+        ensures { result.now ≡ self.now }
     {
         self.list.list()
     }
 
     /// The axioms as a row of bits.
     pub fn row(&self) -> [u64; 16]
-        ensures { result ≡ self.now.row }
+        ensures sixteen { length result ≡ 16 }
+        ensures exact { (c : ℕ) → c < 1024 → has result c ≡ among self.now c }
     {
         self.row
     }
 
     /// Whether the concept is an axiom.
     pub fn has(&self, c: u16) -> bool
-        ensures { result ≡ has self.now.row c }
+        ensures { result ≡ among self.now c }
     {
-        bits::has(&self.row, c as usize)
+        if (c as usize) < MOST_CONCEPTS {
+            bits::has(&self.row, c as usize)
+        } else {
+            let list = &self.list;
+            list.list().contains(&c)
+        }
     }
 
     /// Adds an axiom; None if the list is full.
     pub fn add(&mut self, c: u16) -> Option<usize>
-        ensures { AxiomAdded self.old self.new c result }
+        ensures { Added 256 self.old self.new c result }
     {
         let number = self.list.add(c)?;
         bits::insert(&mut self.row, c as usize);

@@ -4,13 +4,17 @@ pub mod axioms;
 pub mod mates;
 pub mod roles;
 
-ghost use Rattle.std.specs.Prelude.{◌≡◌, min, length};
+ghost use Rattle.std.specs.Prelude.{◌≡◌, ℕ, ◌<◌, min, length};
 ghost use Rattle.std.specs.Option.{is_some};
-ghost use Rattle.register.specs.Registers.{entries, room};
+ghost use Rattle.bits.specs.Among.{among};
+ghost use Rattle.bits.specs.Bits.{has};
+ghost use Rattle.register.specs.Registers.{room};
 ghost use Rattle.logic.specs.Roles.{NamesBelow};
-ghost use Rattle.vocabulary.specs.Mates.{mate, are_mates};
-ghost use Rattle.vocabulary.specs.Roles.{role_axioms, is_below, is_transitive};
-ghost use Rattle.vocabulary.specs.Vocabularies.{concepts, concept_at, axioms, is_axiom, opposed, pairable, New, ConceptFiled, RolesFiled, AxiomFiled, Paired};
+ghost use Rattle.logic.specs.Theories.{concept_at, are_mates};
+ghost use Rattle.logic.specs.Pairing.{negates, pairable};
+ghost use Rattle.closure.specs.Decide.{is_below, is_transitive};
+ghost use Rattle.vocabulary.specs.Mates.{mate};
+ghost use Rattle.vocabulary.specs.Vocabularies.{concepts, theory, New, ConceptFiled, RolesFiled, AxiomFiled, Paired};
 
 use crate::axioms::Axioms;
 use crate::mates::Mates;
@@ -25,9 +29,10 @@ pub const MOST_CONCEPTS: usize = 1024;
 /// The most axioms of either list.
 pub const MOST_AXIOMS: usize = 256;
 
-/// What lines and models are judged by: the role axioms, the concepts, which of them are mates, and the axioms. What every
-/// vocabulary keeps (`Kept`) is no ghost field: it speaks of ways between roles and of places in lists, of which there may be
-/// several, and what a ghost field says must have one proof at most.
+/// What lines and models are judged by: the role axioms, the concepts, which of them are mates, and
+/// the axioms. Contracts see it as a plain record of these four (`theory`). That its tables answer
+/// what was filed, and that each concept is made of earlier ones, belongs to the types of its
+/// parts.
 #[derive(Drop)]
 pub struct Vocabulary<'a> {
     roles: Roles,
@@ -53,7 +58,7 @@ impl<'a> Vocabulary<'a> {
 
     /// The role axioms, in filing order.
     pub fn role_axioms(&self) -> &[RoleAxiom]
-        ensures { result.now ≡ role_axioms self.now.roles }
+        ensures { result.now ≡ self.now.roles }
     {
         self.roles.axioms()
     }
@@ -103,7 +108,7 @@ impl<'a> Vocabulary<'a> {
 
     /// Concept `c`, if it stands.
     pub fn concept(&self, c: u16) -> Option<Concept>
-        ensures { result ≡ concept_at self.now c }
+        ensures { result ≡ concept_at (theory self.now) c }
     {
         self.concepts.get(c as usize)
     }
@@ -124,28 +129,29 @@ impl<'a> Vocabulary<'a> {
 
     /// The concepts that hold of every element, in filing order.
     pub fn axioms(&self) -> &[u16]
-        ensures { result.now ≡ axioms self.now }
+        ensures { result.now ≡ self.now.axioms }
     {
         self.axioms.list()
     }
 
     /// The axioms as a row of bits.
     pub fn axiom_row(&self) -> [u64; 16]
-        ensures { result ≡ self.now.axioms.row }
+        ensures sixteen { length result ≡ 16 }
+        ensures exact { (c : ℕ) → c < 1024 → has result c ≡ among self.now.axioms c }
     {
         self.axioms.row()
     }
 
     /// Whether the concept is an axiom.
     pub fn is_axiom(&self, c: u16) -> bool
-        ensures { result ≡ is_axiom self.now c }
+        ensures { result ≡ among self.now.axioms c }
     {
         self.axioms.has(c)
     }
 
     /// Whether the two are mates.
     pub fn are_mates(&self, c: u16, d: u16) -> bool
-        ensures { result ≡ are_mates self.now.mates c d }
+        ensures { result ≡ are_mates (mate self.now.mates) c d }
     {
         self.mates.are_mates(c, d)
     }
@@ -157,9 +163,10 @@ impl<'a> Vocabulary<'a> {
         self.axioms.add(c)
     }
 
-    // Whether `k` is written as the negation of `j`, which is the first of the two in the order of tags.
-    fn opposed(&self, j: Concept, k: Concept) -> bool
-        ensures { result ≡ opposed self.now.mates j k }
+    // Whether `k` is written as the negation of `j`, which is the first of the two in the order of
+    // tags.
+    fn negates(&self, j: Concept, k: Concept) -> bool
+        ensures { result ≡ negates (mate self.now.mates) j k }
     {
         match (j, k) {
             (Concept::Top, Concept::Bottom) => true,
@@ -173,7 +180,7 @@ impl<'a> Vocabulary<'a> {
 
     /// Whether the two can be paired.
     pub fn pairable(&self, c: u16, d: u16) -> bool
-        ensures { result ≡ pairable self.now c d }
+        ensures { result ≡ pairable (theory self.now) c d }
     {
         if self.mate(c).is_some() || self.mate(d).is_some() {
             return false;
@@ -181,7 +188,7 @@ impl<'a> Vocabulary<'a> {
         let (Some(j), Some(k)) = (self.concept(c), self.concept(d)) else {
             return false;
         };
-        self.opposed(j, k) || self.opposed(k, j)
+        self.negates(j, k) || self.negates(k, j)
     }
 
     /// Pairs the two; None if they can't be paired.

@@ -1,5 +1,6 @@
-ghost use Rattle.std.specs.Prelude.{◌≡◌, replicate, None};
-ghost use Rattle.vocabulary.specs.Mates.{mate, are_mates, Joined};
+ghost use Rattle.std.specs.Prelude.{◌≡◌, ℕ, None};
+ghost use Rattle.logic.specs.Theories.{are_mates};
+ghost use Rattle.vocabulary.specs.Mates.{mate, Joined};
 
 use crate::MOST_CONCEPTS;
 
@@ -12,7 +13,7 @@ pub struct Mates {
 impl Mates {
     /// No concept has a mate.
     pub fn new() -> Mates
-        ensures { result.of ≡ replicate 1024 None }
+        ensures { (c : ℕ) → mate result c ≡ None }
     {
         Mates {
             of: [None; MOST_CONCEPTS],
@@ -28,7 +29,7 @@ impl Mates {
 
     /// Whether the two are mates.
     pub fn are_mates(&self, c: u16, d: u16) -> bool
-        ensures { result ≡ are_mates self.now c d }
+        ensures { result ≡ are_mates (mate self.now) c d }
     {
         self.mate(c) == Some(d)
     }

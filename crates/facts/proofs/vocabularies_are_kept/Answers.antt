@@ -1,5 +1,5 @@
-use Rattle.docket.proofs.Reaching.{reached_kept}
+use Rattle.docket.proofs.Reaching.{reached_bounded}
 use Rattle.facts.proofs.vocabularies_are_kept.Goals as goal
 
 pub returns : goal.returns
-returns c = reached_kept
+returns c = λ b d r. let k = reached_bounded b d r in (k.kept, k.small)

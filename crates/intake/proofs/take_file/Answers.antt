@@ -2,6 +2,7 @@ use Rattle.std.proofs.Common.{◌≤◌, length, sym, refl, ◌∙◌, subst, ar
 use Rattle.records.proofs.Offsets.{passed_none, passed_all}
 use Rattle.facts.proofs.Claims.{claims_are_right}
 use Rattle.facts.proofs.ThreeFacts.{three_facts}
+use Rattle.intake.proofs.Joining.{filed_trees_are_taken}
 use Rattle.intake.proofs.Replies.{handed_room, handed_more, taken_all, taken_reached}
 use Rattle.intake.proofs.take_file.Goals as goal
 
@@ -10,6 +11,9 @@ returns-then-replies-total-clause-facts g c = three_facts
 
 pub returns-then-replies-total-clause-claims : goal.returns-then-replies-total-clause-claims
 returns-then-replies-total-clause-claims g c = claims_are_right
+
+pub returns-then-replies-total-clause-trees : goal.returns-then-replies-total-clause-trees
+returns-then-replies-total-clause-trees g c = filed_trees_are_taken
 
 pub loop-i-init : goal.loop-i-init
 loop-i-init g c =
@@ -29,7 +33,7 @@ bounds-replies-i g c =
 pub loop-i-preserved : goal.loop-i-preserved
 loop-i-preserved g c =
     let (gave, is, more, fits) = c.in-Some.ensures.steps in
-    rw (is, more) (handed_more c.in-Some.frame c.take.result c.loop-i.invariant gave (handed_room c.in-Some.frame c.loop-i.invariant gave c.count-total.ensures.counted (omega arith)) c.take.ensures)
+    rw (is, more) (handed_more c.in-Some.frame c.take.result c.loop-i.invariant gave (handed_room c.in-Some.frame c.loop-i.invariant gave c.count-total.ensures.counted (omega arith)) c.take.ensures.takes)
 
 pub returns : goal.returns
 returns g c =
@@ -44,7 +48,8 @@ returns g c =
     let all = taken_all k f i c.args.docket.now c.loop-i.docket c.args.rows.now c.loop-i.rows _ end h.taken in
     record {
       taken = (c.count-total.ensures.counted, omega arith, rw total all, rw total h.behind);
-      reached = taken_reached k (g.met.B.Bank.lawful c.args.bank.now) f 0 c.args.docket.now c.loop-i.docket c.args.rows.now c.loop-i.rows _ all;
+      reached = λ b lends. taken_reached b k lends f 0 c.args.docket.now c.loop-i.docket c.args.rows.now c.loop-i.rows _ all;
       facts = three_facts;
+      trees = filed_trees_are_taken;
       claims = claims_are_right;
     }

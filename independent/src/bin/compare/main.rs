@@ -122,7 +122,7 @@ fn work(options: &Options, folder: &Path, thread: usize, next: &AtomicU64, total
         let one = run(&options.programs[0], false)?;
         let other = run(&options.programs[1], options.wide)?;
         counts.add(made.way, &made.bytes, &one.stdout);
-        if one.stdout != other.stdout || one.status != other.status {
+        if one.stdout != other.stdout || one.stderr != other.stderr || one.status != other.status {
             counts.differences += 1;
             let kept = folder.join(format!("{}-{number}.dossier", options.seed));
             fs::write(&kept, &made.bytes)?;

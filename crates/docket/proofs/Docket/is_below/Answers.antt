@@ -1,9 +1,7 @@
-use Rattle.std.proofs.Common.{rules}
-use Rattle.docket.proofs.Answering.{role_fits, says_below}
+use Rattle.std.proofs.Common.{rules, subst, sym}
+use Rattle.docket.specs.Questions.{SaysBelow}
+use Rattle.docket.proofs.Answering.{says_below}
 use Rattle.docket.proofs.Docket.is_below.Goals as goal
 
 pub returns : goal.returns
-returns c = record {
-  answered = search rules;
-  means = says_below c.args.self.now c.args.r c.args.s _ (role_fits _ _ c.in_ok-check_role.ensures) (role_fits _ _ c.in_ok-check_role-2.ensures) c.is_below.ensures;
-}
+returns c = (search rules, subst (SaysBelow c.args.self.now c.args.r c.args.s) (sym c.is_below.ensures) (says_below c.args.self.now c.args.r c.args.s))

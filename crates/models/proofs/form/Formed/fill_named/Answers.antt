@@ -1,30 +1,25 @@
-use Rattle.std.proofs.Common.{◌≡◌, eqb, ap, ◌∙◌, arith, rules}
-use Rattle.std.proofs.lemmas.Bool.{eq-eqb, ne_eqb}
-use Rattle.models.specs.Items.{mark_at, mark_element, mark_name}
-use Rattle.models.proofs.WalkFacts.{walk_none, walk_insert, walk_skip}
+use Rattle.std.proofs.Common.{◌≡◌, ◌/◌, ◌%◌, T, sym, ap, ◌∙◌, subst, arith, eqb→eq}
+use Rattle.std.proofs.lemmas.Bool.{false_from_ne_true}
+use Rattle.bits.specs.Bits.{bit}
+use Rattle.bits.proofs.Tests.{and_out}
+use Rattle.bits.proofs.SomeBelow.{some_there}
+use Rattle.rows.proofs.RowFacts.{row_written}
+use Rattle.models.specs.Items.{marked, marks_in, mark_name}
+use Rattle.models.proofs.WalkFacts.{row_as}
 use Rattle.models.proofs.form.Formed.fill_named.Goals as goal
-use Rattle.models.proofs.form.Formed.fill_named.Goals.{then-mark-name, else-mark-name}
 
-pub loop-bytes-init : goal.loop-bytes-init
-loop-bytes-init c =
-    let ms = c.args.self.now.model.now.marks.now in
-    walk_none _ _ _ (λ k. eqb (mark_name ms k) c.args.name) (mark_element ms) c.clear.ensures
+pub returns-then-name-lt-NAMES : goal.returns-then-name-lt-NAMES
+returns-then-name-lt-NAMES c = row_written _ _ _ _ _ c.write.ensures (λ e l.
+    ap (λ w. bit w (e % 64)) (c.row.ensures.words (e / 64) (omega arith))
+    ∙ c.requires.named c.args.name e c.if-name-lt-NAMES.true l)
 
-pub insert-requires : goal.insert-requires
-insert-requires c =
-    let formed = c.args.self.now.formed in
-    let are = c.mark_chunks-bytes-items.ensures in
-    let f = formed.sized.few_elements in
-    let e = (formed.good_marks c.loop-bytes.bytes-index (omega (arith, are.many))).element_in_range in
-    (search rules, omega (arith, ap (λ m. m.element) (c.from-mark.ensures ∙ are.reads c.loop-bytes.bytes-index _ (omega (arith, are.many)))))
-
-pub loop-bytes-preserved : goal.loop-bytes-preserved
-loop-bytes-preserved c =
-    let ms = c.args.self.now.model.now.marks.now in
-    let are = c.mark_chunks-bytes-items.ensures in
-    let at : c.from-mark.result ≡ mark_at ms c.loop-bytes.bytes-index = c.from-mark.ensures ∙ are.reads c.loop-bytes.bytes-index _ (omega (arith, are.many)) in
-    let name = ap (λ m. m.name) at in
-    elim c.if-mark-name.branch [
-      | then-mark-name w ↦ rw w.rows-is (walk_insert _ _ _ _ (λ k. eqb (mark_name ms k) c.args.name) (mark_element ms) _ _ c.loop-bytes.invariant (eq-eqb _ _ (omega (arith, name))) (ap (λ m. m.element) at) w.insert.ensures)
-      | else-mark-name w ↦ rw w.rows-is (walk_skip _ _ _ (λ k. eqb (mark_name ms k) c.args.name) (mark_element ms) _ c.loop-bytes.invariant (ne_eqb _ _ (omega (arith, name))))
-    ]
+pub returns-else-name-lt-NAMES : goal.returns-else-name-lt-NAMES
+returns-else-name-lt-NAMES c =
+    let self = c.args.self.now in
+    let ms = self.model.now.marks.now in
+    row_as _ _ _ _ (λ e. marked ms c.args.name e) c.clear.ensures (λ e l. sym (false_from_ne_true (marked ms c.args.name e) (λ t.
+    let (i, h, u) = some_there (marks_in ms) _ (subst T (sym t) tt) in
+    let name : mark_name ms i ≡ c.args.name = eqb→eq _ _ (and_out _ _ u).0 in
+    let range = (self.formed.good_marks i h).name_in_range in
+    let past = c.if-name-lt-NAMES.false in
+    omega arith)))

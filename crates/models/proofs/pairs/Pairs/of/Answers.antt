@@ -1,41 +1,46 @@
-use Rattle.std.proofs.Common.{◌≡◌, ◌<◌, sym, ap, ◌∙◌, subst, arith}
-use Rattle.std.proofs.lemmas.Bool.{eq-eqb, ne_eqb}
-use Rattle.models.specs.Items.{edge_at, edges_in, source, target}
+use Rattle.std.proofs.Common.{◌≡◌, ◌/◌, ◌<◌, length, sym, ap, ◌∙◌, subst, arith}
+use Rattle.models.specs.Items.{source, target}
 use Rattle.bits.specs.Below.{some_below}
-use Rattle.models.proofs.PairFacts.{source_small, target_small}
-use Rattle.models.proofs.TableFacts.{is_pair, table_none, table_skip, table_insert, table_leads}
+use Rattle.models.proofs.PartFacts.{chunk_edge, some_of, chunk_source_small, chunk_target_small}
+use Rattle.models.proofs.TableFacts.{is_pair, table_none, table_insert, table_leads}
 use Rattle.models.proofs.pairs.Pairs.of.Goals as goal
-use Rattle.models.proofs.pairs.Pairs.of.Goals.{then-edge-role, else-edge-role}
 
 pub loop-bytes-init : goal.loop-bytes-init
-loop-bytes-init c = table_none c.args.formed.model.now.edges.now c.args.role
+loop-bytes-init c =
+    let edges = c.edges_of-edges.result.now in
+    table_none 256 (λ k. source c.args.role (chunk_edge edges k)) (λ k. target c.args.role (chunk_edge edges k)) 1024
 
 pub insert-requires : goal.insert-requires
 insert-requires c =
     let formed = c.args.formed in
-    let are = c.edge_chunks-bytes-items.ensures in
+    let edges = c.edges_of-edges.result.now in
     let r = c.args.role in
     let i = c.loop-bytes.bytes-index in
-    let at : c.from-edge.result ≡ edge_at formed.model.now.edges.now i = c.from-edge.ensures ∙ are.reads i _ (omega (arith, are.many)) in
-    let s : c.source.result < 256 = subst (λ x. x < 256) (sym (c.source.ensures ∙ ap (source r) at)) (source_small formed.model.now formed.formed r i (omega (arith, are.many))) in
-    (omega (arith, s, c.if-edge-role.array_long), subst (λ x. x < 256) (sym (c.target.ensures ∙ ap (target r) at)) (target_small formed.model.now formed.formed r i (omega (arith, are.many))))
+    let at : c.from-edge.result ≡ chunk_edge edges i = c.from-edge.ensures in
+    let s : c.source.result < 256 = subst (λ x. x < 256) (sym (c.source.ensures ∙ ap (source r) at))
+    (chunk_source_small formed.model.now formed.formed _ _ c.edges_of-edges.ensures r i (omega arith)) in (
+      omega (arith, s, c.from-edge.array_long),
+      subst (λ x. x < 256) (sym (c.target.ensures ∙ ap (target r) at))
+          (chunk_target_small formed.model.now formed.formed _ _ c.edges_of-edges.ensures r i (omega arith)),
+    )
 
 pub loop-bytes-preserved : goal.loop-bytes-preserved
 loop-bytes-preserved c =
-    let formed = c.args.formed in
-    let es = formed.model.now.edges.now in
+    let edges = c.edges_of-edges.result.now in
     let r = c.args.role in
     let i = c.loop-bytes.bytes-index in
-    let are = c.edge_chunks-bytes-items.ensures in
-    let at : c.from-edge.result ≡ edge_at es i = c.from-edge.ensures ∙ are.reads i _ (omega (arith, are.many)) in
-    let role = ap (λ e. e.role_name) at in
-    elim c.if-edge-role.branch [
-      | then-edge-role w ↦ rw w.table-is (table_insert es r i _ _ _ _ c.loop-bytes.invariant (eq-eqb _ _ (omega (arith, role))) (w.source.ensures ∙ ap (source r) at) (w.target.ensures ∙ ap (target r) at) w.insert.ensures)
-      | else-edge-role w ↦ rw w.table-is (table_skip es r i _ c.loop-bytes.invariant (ne_eqb _ _ (omega (arith, role))))
-    ]
+    let at : c.from-edge.result ≡ chunk_edge edges i = c.from-edge.ensures in
+    table_insert 256 (λ k. source r (chunk_edge edges k)) (λ k. target r (chunk_edge edges k)) i _ _ _ _ c.loop-bytes.invariant
+    (c.source.ensures ∙ ap (source r) at) (c.target.ensures ∙ ap (target r) at) c.insert.ensures
 
 pub invariant_of-result : goal.invariant_of-result
 invariant_of-result c =
     let m = c.args.formed.model.now in
-    let all : c.loop-bytes.bytes-index ≡ edges_in m.edges.now = omega (arith, c.edge_chunks-bytes-items.ensures.many) in
-    record { tabled = λ x z h l. c.loop-bytes.invariant x z h l ∙ ap (λ i. some_below i (is_pair m.edges.now c.args.role x z)) all ∙ table_leads m c.args.role x z }
+    let edges = c.edges_of-edges.result.now in
+    let r = c.args.role in
+    let all : c.loop-bytes.bytes-index ≡ length edges = omega arith in
+    record {
+      tabled = λ x z h l.
+          c.loop-bytes.invariant x z h l ∙ ap (λ i. some_below i (λ k. is_pair r x z (chunk_edge edges k))) all
+          ∙ some_of m.edges.now (r / 2) edges c.edges_of-edges.ensures (is_pair r x z) ∙ table_leads m r x z;
+    }

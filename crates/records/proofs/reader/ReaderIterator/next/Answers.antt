@@ -1,5 +1,6 @@
-use Rattle.std.proofs.Common.{◌∙◌, sym, refl, arith}
+use Rattle.std.proofs.Common.{◌≡◌, ℕ, ◌+◌, ◌∙◌, sym, refl, ap, arith}
 use Rattle.std.proofs.lemmas.List.{take_rest}
+use Rattle.records.specs.Records.{end_of}
 use Rattle.records.proofs.Rest.{same_kind, same_end, rest_content}
 use Rattle.records.proofs.reader.ReaderIterator.next.Goals as goal
 
@@ -10,4 +11,10 @@ returns-clause-steps c =
     let rest = take_rest f i in
     let kind = c.kind_number.ensures ∙ sym (same_kind _ f 0 i (omega arith) (omega arith) rest) in
     let end = same_end _ f 0 i (omega arith) (omega arith) rest in
-    (c.if-at-self.false, refl, kind, rw c.ok_or.ensures.value (rest_content f _ i (omega arith) rest c.content.result c.content.ensures), refl, omega (arith, c.extent.ensures, end))
+    let next : i + c.extent.result ≡ end_of f i = omega (arith, c.extent.ensures, end) in (
+      c.if-at-self.false,
+      refl,
+      kind,
+      rw c.ok_or.ensures.value (rest_content f _ i (omega arith) rest c.content.result c.content.ensures),
+      ap (λ (n : ℕ). record c.args.self.now { at = n }) next,
+    )

@@ -1,8 +1,5 @@
-use mathlib.Core.List.Memᴰ
-use Rattle.vocabulary.proofs.RoleTables.{transitive_none}
+use Rattle.vocabulary.proofs.RoleTables.{agree_new}
 use Rattle.vocabulary.proofs.roles.Roles.new.Goals as goal
 
-pub returns-clause-kept : goal.returns-clause-kept
-returns-clause-kept c =
-    let none = c.new.ensures in
-    record { names = rw none (λ a m. absurd (Memᴰ.not-nil m)); below = rw none c.start.ensures; transitive = rw none transitive_none }
+pub invariant_of-result : goal.invariant_of-result
+invariant_of-result c = rw c.new.ensures (agree_new c.start.new.table c.start.ensures)

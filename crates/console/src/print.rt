@@ -1,0 +1,56 @@
+ghost use Rattle.std.specs.Prelude.{Some, codes};
+ghost use Rattle.console.specs.Reports.{report_text, notice_text};
+ghost use Rattle.console.specs.Outputs.{Printed};
+
+use crate::failure::Failure;
+use crate::output::put;
+use crate::report::Report;
+use std::alloc::Global;
+use std::fmt;
+use std::io::Write;
+
+/// What is said of a file that reaches the limit of what is read: what may lie behind it is not
+/// known. Of a shorter one, nothing.
+#[derive(Clone, Copy)]
+pub struct Notice {
+    pub limit: usize,
+    pub length: usize,
+}
+
+impl fmt::Display for Notice {
+    ghost output = { λ n. Some (notice_text n.limit n.length) };
+
+    fn fmt<W: fmt::Write>(&self, f: &mut fmt::Formatter<W>) -> fmt::Result {
+        if self.length < self.limit {
+            return Ok(());
+        }
+        writeln!(
+            f,
+            "the limit of {} bytes is reached; what may lie behind them was not looked at",
+            self.limit,
+        )
+    }
+}
+
+/// Writes a report to the output, and then what there is to notice to `notices`.
+pub fn print<W: Write, N: Write>(
+    alloc: Global,
+    report: Report,
+    notice: Notice,
+    output: &mut W,
+    notices: &mut N,
+) -> Result<(), Failure>
+    ensures { Printed
+        (report_text report.entry.replies.now report.entry.tally)
+        (notice_text notice.limit notice.length)
+        (W.contents output.old) (W.contents output.new)
+        (N.contents notices.old) (N.contents notices.new) result }
+{
+    // made whole before anything is written: after an error, a formatter does not say what it has
+    // written
+    let text = format!(in alloc; "{report}")?;
+    let said = format!(in alloc; "{notice}")?;
+    put(output, text.as_bytes())?;
+    put(notices, said.as_bytes())?;
+    Ok(())
+}

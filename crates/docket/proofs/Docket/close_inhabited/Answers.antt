@@ -1,0 +1,18 @@
+use Rattle.std.proofs.Common.{rules}
+use Rattle.docket.proofs.Running.{stays}
+use Rattle.docket.proofs.Docket.close_inhabited.Goals as goal
+
+pub returns-then-rows-len-clause-reached : goal.returns-then-rows-len-clause-reached
+returns-then-rows-len-clause-reached c = stays (search rules)
+
+pub returns-in_err-claimed-clause-reached : goal.returns-in_err-claimed-clause-reached
+returns-in_err-claimed-clause-reached c = stays (search rules)
+
+pub returns-then-not-is_open-clause-reached : goal.returns-then-not-is_open-clause-reached
+returns-then-not-is_open-clause-reached c = stays (search rules)
+
+pub returns-in_err-judge-clause-reached : goal.returns-in_err-judge-clause-reached
+returns-in_err-judge-clause-reached c = stays (search rules)
+
+pub returns-clause-reached : goal.returns-clause-reached
+returns-clause-reached c = stays (search rules)

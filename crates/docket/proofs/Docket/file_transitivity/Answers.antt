@@ -1,0 +1,9 @@
+use Rattle.std.proofs.Common.{rules}
+use Rattle.docket.proofs.Running.{stays}
+use Rattle.docket.proofs.Docket.file_transitivity.Goals as goal
+
+pub returns-in_err-check_role-clause-reached : goal.returns-in_err-check_role-clause-reached
+returns-in_err-check_role-clause-reached c = stays (search rules)
+
+pub returns-clause-reached : goal.returns-clause-reached
+returns-clause-reached c = stays (search rules)
