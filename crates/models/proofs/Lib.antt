@@ -7,5 +7,4 @@ pub mod TableFacts
 pub mod WithinFacts
 pub mod WalkFacts
 pub mod MeaningFacts
-pub mod ReachFacts
 pub mod JudgingFacts

@@ -69,16 +69,16 @@ module _ (m : Model) (formed : WellFormed m) where
       let w = some_there (marks_in m.marks.now) _ t in
       subst (λ x. x < m.size) (eqb→eq _ _ (and_out _ _ w.2).1) (formed.good_marks w.0 w.1).element_in_range
 
-  pub reached_in_range : (r : ℕ) (g : ℕ → Bool) (e : ℕ) → T (reaches es r g e) → e < m.size
+  reached_in_range : (r : ℕ) (g : ℕ → Bool) (e : ℕ) → T (reaches es r g e) → e < m.size
   reached_in_range r g e t = let (i, w) = reaches_out es r g e t in subst (λ x. x < m.size) w.source_is (source_in_range m formed r i w.listed)
 
   -- role r leads from e to an element that g passes exactly if an edge does
-  pub reaches_leads : (r : ℕ) (g : ℕ → Bool) (e : ℕ) → T (reaches es r g e) → (y : ℕ) × Element I y × Leads I r e y × T (g y)
+  reaches_leads : (r : ℕ) (g : ℕ → Bool) (e : ℕ) → T (reaches es r g e) → (y : ℕ) × Element I y × Leads I r e y × T (g y)
   reaches_leads r g e t =
       let (i, w) = reaches_out es r g e t in
       (edge_target es r i, element m _ (target_in_range m formed r i w.listed), subst (λ x. Leads I r x (edge_target es r i)) w.source_is (leads_in m r i w.listed w.role_is), w.passed)
 
-  pub leads_reaches : (r : ℕ) (g : ℕ → Bool) (e y : ℕ) → Leads I r e y → T (g y) → T (reaches es r g e)
+  leads_reaches : (r : ℕ) (g : ℕ → Bool) (e y : ℕ) → Leads I r e y → T (g y) → T (reaches es r g e)
   leads_reaches r g e y l t =
       let (i, p) = leads_out m r e y l in
       reaches_in es r g e i (record { listed = p.listed; role_is = p.role_is; passed = subst (λ x. T (g x)) (sym p.target_is) t; source_is = p.source_is })

@@ -23,11 +23,9 @@ TabledTo n s t i table = (x z : ℕ) → x < n → z < 256 → contains table x 
 
 module _ (n : ℕ) (s t : ℕ → ℕ) where
   pub table_none : (words : ℕ) → TabledTo n s t 0 (replicate words 0)
-  table_none words x z h l = contains_has (replicate words 0) x z l ∙ has_zeros words (256 * x + z)
-      ∙ sym (some_none (λ k. eqb (s k) x && eqb (t k) z))
+  table_none words x z h l = contains_has (replicate words 0) x z l ∙ has_zeros words (256 * x + z) ∙ sym (some_none (λ k. eqb (s k) x && eqb (t k) z))
 
-  pub table_insert : (i a b : ℕ) (old new : List ℕ) → TabledTo n s t i old → a ≡ s i → b ≡ t i →
-      RowBecomes old new a (λ e. eqb b e || contains old a e) → TabledTo n s t (i + 1) new
+  pub table_insert : (i a b : ℕ) (old new : List ℕ) → TabledTo n s t i old → a ≡ s i → b ≡ t i → RowBecomes old new a (λ e. eqb b e || contains old a e) → TabledTo n s t (i + 1) new
   table_insert i a b old new p qa qb w x z h l =
       ⊎_elim here there (cases_eq a x)
       ∙ sym (some_next i (λ k. eqb (s k) x && eqb (t k) z) ∙ ap₂ (λ c d. so_far || (eqb c x && eqb d z)) (sym qa) (sym qb))

@@ -1,7 +1,9 @@
 -- A row that a walk over a list fills.
 use Rattle.std.proofs.Common.{◌≡◌, ℕ, ◌+◌, ◌<◌, Bool, true, false, ◌&&◌, ◌||◌, eqb, List, sym, refl, ap, ◌∙◌, ap₂}
 use mathlib.Core.Bool.{or-false, or_comm}
-use Rattle.rows.specs.Rows.{contains, RowBecomes}
+use Rattle.rows.specs.Rows.{contains, turned, RowBecomes}
+use Rattle.models.specs.declared.items.Edge.{Edge}
+use Rattle.models.specs.Items.{target}
 use Rattle.bits.specs.Below.{some_below}
 use Rattle.bits.proofs.SomeBelow.{some_none, some_next}
 
@@ -15,6 +17,10 @@ row_as a b c f g p h = record { elements = λ e l. p.elements e l ∙ h e l; oth
 -- the row so far: the elements s k of those k below i that p passes
 abbrev pub walked : (ℕ → Bool) → (ℕ → ℕ) → ℕ → ℕ → Bool
 walked p s i e = some_below i (λ k. p k && eqb (s k) e)
+
+-- whether the target of an edge, as a pair of role r, is inside, or outside
+abbrev pub hits : ℕ → Bool → (ℕ → Bool) → Edge → Bool
+hits r outside inside e = turned outside (inside (target r e))
 
 pub walk_none : (z old : List ℕ) (c : ℕ) (p : ℕ → Bool) (s : ℕ → ℕ) → RowBecomes z old c (λ _. false) → RowBecomes old old c (λ e. walked p s 0 e)
 walk_none z old c p s h = record { elements = λ e l. h.elements e l ∙ sym (some_none (λ k. p k && eqb (s k) e)); others = λ i n. refl }

@@ -1,4 +1,5 @@
--- The edges of a role name: one part of the list, since edges rise by the role name first.
+-- The edges of a role name, which are one part of the list, since edges rise by the role name
+-- first.
 use Rattle.std.specs.Prelude.{◌≡◌, ℕ, ◌<◌, ◌≤◌, List, length, slice_index, slice_index_or}
 use denote.Struct.Props as logic
 use Rattle.models.specs.Items.{edges_in, edge_role, edge_at}

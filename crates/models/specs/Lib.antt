@@ -5,5 +5,4 @@ pub mod FormProps
 pub mod EdgeParts
 pub mod Pairs
 pub mod Evaluation
-pub mod Tables
 pub mod Judging

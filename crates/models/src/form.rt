@@ -23,8 +23,7 @@ pub(crate) struct Formed<'m> {
     pub(crate) model: &'m Model<'m>,
     pub(crate) starts: [usize; 65],
     ghost formed: { WellFormed model.now } by { WellFormed-prop model.now },
-    ghost begin: { AllBegin model.now.edges.now starts } by { AllBegin-prop
-        model.now.edges.now starts },
+    ghost begin: { AllBegin model.now.edges.now starts } by { AllBegin-prop model.now.edges.now starts },
 }
 
 impl<'m> Formed<'m> {

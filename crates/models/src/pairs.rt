@@ -1,16 +1,12 @@
-ghost use Rattle.std.specs.Prelude.{◌≡◌, ℕ, ◌<◌, T, not, ◌↔◌, length};
+ghost use Rattle.std.specs.Prelude.{◌≡◌, ℕ, ◌<◌, T, ◌↔◌, length};
 ghost use Rattle.bits.specs.Bits.{has};
-ghost use Rattle.rows.specs.Rows.{HasRow, contains, turned, RowBecomes};
 ghost use Rattle.logic.specs.Interpretations.{leads};
-ghost use Rattle.models.specs.Evaluation.{reaches};
 ghost use Rattle.models.specs.Models.{described};
 ghost use Rattle.models.specs.Pairs.{WordWithin, Within, Tabled, Tabled-prop, LeadsOn};
 
 use crate::form::{Formed, MOST_ELEMENTS};
 use crate::items::Edge;
-use bits::low_bits;
-use rows::{clear, insert, row};
-use std::array;
+use rows::{insert, row};
 
 // The pairs of a role in a model, as a table of rows: row x has the elements that the role leads to
 // from x. So each pair is a look, and to set what one element is led to beside what another is
@@ -37,19 +33,6 @@ pub(crate) fn is_within(y: [u64; 4], x: [u64; 4]) -> bool
     (0..4).all(|w| is_word_within(y[w], x[w]))
 }
 
-// The elements that are out of row `b`, or in it, as a row.
-fn missed(rows: &[u64], b: usize, outside: bool) -> [u64; 4]
-    requires { HasRow rows.now b }
-    ensures { (z : ℕ) → z < 256 → has result z ≡ not (turned outside (contains rows.now b z)) }
-{
-    let inside = row(rows, b);
-    if outside {
-        inside
-    } else {
-        array::from_fn(|w| inside[w] ^ low_bits(256_usize.saturating_sub(64 * w)))
-    }
-}
-
 impl<'m> Pairs<'m> {
     // The pairs of a role, the edges of its name walked once.
     pub(crate) fn of(formed: Formed<'m>, role: u16) -> Pairs<'m>
@@ -70,33 +53,6 @@ impl<'m> Pairs<'m> {
             formed,
             role,
             table,
-        }
-    }
-
-    // Becomes the pairs of a role; they stay if they are that role's.
-    pub(crate) fn turn_to(&mut self, role: u16)
-        ensures model { self.new.formed ≡ self.old.formed }
-        ensures role { self.new.role ≡ role }
-    {
-        if self.role != role {
-            *self = Pairs::of(self.formed, role);
-        }
-    }
-
-    // Row `c` becomes the elements that the role leads from into row `b`, or out of it.
-    pub(crate) fn fill_reaching(&self, rows: &mut [u64], c: usize, b: usize, outside: bool)
-        requires room { HasRow rows.old c }
-        requires below { b < c }
-        ensures { RowBecomes rows.old rows.new c
-            (λ e. reaches self.now.formed.model.now.edges.now self.now.role
-            (λ y. turned outside (contains rows.old b y)) e) }
-    {
-        let missed = missed(rows, b, outside);
-        clear(rows, c);
-        for e in 0..self.formed.model.size {
-            if !is_within(self.row(e), missed) {
-                insert(rows, c, e as usize);
-            }
         }
     }
 

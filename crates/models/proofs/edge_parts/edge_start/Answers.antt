@@ -9,5 +9,4 @@ returns c =
     let name = c.args.name in
     let rise = roles_rise c.args.model.now _ c.requires c.edge_chunks.ensures in
     begins _ _ name _ c.edge_chunks.ensures c.partition_point.ensures.bound
-    (IsPartitionPoint-from_clause (λ b. ltb (edge_role b 0) name) _ _ c.partition_point.ensures.partitioned
-    (IsPartitionedBy-ltb (λ b. edge_role b 0) _ name rise) (λ a r q k. search rules))
+    (IsPartitionPoint-from_clause (λ b. ltb (edge_role b 0) name) _ _ c.partition_point.ensures.partitioned (IsPartitionedBy-ltb (λ b. edge_role b 0) _ name rise) (λ a r q k. search rules))

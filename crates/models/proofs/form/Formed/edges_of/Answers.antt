@@ -3,9 +3,7 @@ use Rattle.models.proofs.PartFacts.{in_order, part_of}
 use Rattle.models.proofs.form.Formed.edges_of.Goals as goal
 
 pub slice_bounds-result-count : goal.slice_bounds-result-count
-slice_bounds-result-count c =
-    let f = c.args.self.now in
-    in_order f.model.now.edges.now f.starts f.begin c.args.name c.if-name-lt-ROLE_NAMES.true
+slice_bounds-result-count c = let f = c.args.self.now in in_order f.model.now.edges.now f.starts f.begin c.args.name c.if-name-lt-ROLE_NAMES.true
 
 pub slice_bounds-result-start : goal.slice_bounds-result-start
 slice_bounds-result-start c =

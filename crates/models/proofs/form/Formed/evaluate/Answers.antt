@@ -8,14 +8,12 @@ use Rattle.models.proofs.form.Formed.evaluate.Goals.{then-refers_below, else-ref
 pub loop-c-preserved : goal.loop-c-preserved
 loop-c-preserved c =
     elim c.if-refers_below.branch [
-      | then-refers_below w ↦ rw (w.rows-is, w.tables-is) (
-        (λ o. row_more _ c.args.self.now.formed _ _ _ _ o (omega arith) (c.loop-c.invariant.0 o) w.fill.ensures.row),
-        λ i h. w.fill.ensures.row.others i (omega arith) ∙ c.loop-c.invariant.1 i (omega arith),
-        w.fill.ensures.tables,
+      | then-refers_below w ↦ rw w.rows-is (
+        (λ o. row_more _ c.args.self.now.formed _ _ _ _ o (omega arith) (c.loop-c.invariant.0 o) w.fill.ensures),
+        λ i h. w.fill.ensures.others i (omega arith) ∙ c.loop-c.invariant.1 i (omega arith),
       )
-      | else-refers_below w ↦ rw (w.rows-is, w.tables-is) (
+      | else-refers_below w ↦ rw w.rows-is (
         (λ o. absurd (false≢true (w.if-refers_below.ensures ∙ o c.loop-c.c Top (omega arith)))),
         λ i h. c.loop-c.invariant.1 i (omega arith),
-        c.loop-c.invariant.2,
       )
     ]

@@ -10,8 +10,7 @@ use Rattle.models.proofs.form.Formed.fill_named.Goals as goal
 
 pub returns-then-name-lt-NAMES : goal.returns-then-name-lt-NAMES
 returns-then-name-lt-NAMES c = row_written _ _ _ _ _ c.write.ensures (λ e l.
-    ap (λ w. bit w (e % 64)) (c.row.ensures.words (e / 64) (omega arith))
-    ∙ c.requires.named c.args.name e c.if-name-lt-NAMES.true l)
+    ap (λ w. bit w (e % 64)) (c.row.ensures.words (e / 64) (omega arith)) ∙ c.requires.named c.args.name e c.if-name-lt-NAMES.true l)
 
 pub returns-else-name-lt-NAMES : goal.returns-else-name-lt-NAMES
 returns-else-name-lt-NAMES c =

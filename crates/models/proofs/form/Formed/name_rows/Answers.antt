@@ -24,8 +24,7 @@ loop-bytes-preserved c =
     let are = c.mark_chunks-bytes-items.ensures in
     let i = c.loop-bytes.bytes-index in
     let at : c.from-mark.result ≡ mark_at ms i = c.from-mark.ensures ∙ are.reads i _ (omega (arith, are.many)) in
-    table_insert 1024 (mark_name ms) (mark_element ms) i _ _ _ _ c.loop-bytes.invariant
-    (ap (λ m. m.name) at) (ap (λ m. m.element) at) c.insert.ensures
+    table_insert 1024 (mark_name ms) (mark_element ms) i _ _ _ _ c.loop-bytes.invariant (ap (λ m. m.name) at) (ap (λ m. m.element) at) c.insert.ensures
 
 pub returns : goal.returns
 returns c = λ a e h l.

@@ -3,6 +3,4 @@ use Rattle.models.proofs.TableFacts.{TabledTo}
 use Rattle.models.proofs.form.Formed.name_rows.Given as goal
 
 abbrev pub invariant-loop-bytes : goal.invariant-loop-bytes
-invariant-loop-bytes l =
-    let ms = l.self.model.now.marks.now in
-    TabledTo 1024 (mark_name ms) (mark_element ms) l.bytes-index l.table
+invariant-loop-bytes l = let ms = l.self.model.now.marks.now in TabledTo 1024 (mark_name ms) (mark_element ms) l.bytes-index l.table

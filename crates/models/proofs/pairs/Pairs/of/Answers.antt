@@ -17,12 +17,8 @@ insert-requires c =
     let r = c.args.role in
     let i = c.loop-bytes.bytes-index in
     let at : c.from-edge.result ≡ chunk_edge edges i = c.from-edge.ensures in
-    let s : c.source.result < 256 = subst (λ x. x < 256) (sym (c.source.ensures ∙ ap (source r) at))
-    (chunk_source_small formed.model.now formed.formed _ _ c.edges_of-edges.ensures r i (omega arith)) in (
-      omega (arith, s, c.from-edge.array_long),
-      subst (λ x. x < 256) (sym (c.target.ensures ∙ ap (target r) at))
-          (chunk_target_small formed.model.now formed.formed _ _ c.edges_of-edges.ensures r i (omega arith)),
-    )
+    let s : c.source.result < 256 = subst (λ x. x < 256) (sym (c.source.ensures ∙ ap (source r) at)) (chunk_source_small formed.model.now formed.formed _ _ c.edges_of-edges.ensures r i (omega arith)) in
+    (omega (arith, s, c.from-edge.array_long), subst (λ x. x < 256) (sym (c.target.ensures ∙ ap (target r) at)) (chunk_target_small formed.model.now formed.formed _ _ c.edges_of-edges.ensures r i (omega arith)))
 
 pub loop-bytes-preserved : goal.loop-bytes-preserved
 loop-bytes-preserved c =
@@ -30,8 +26,7 @@ loop-bytes-preserved c =
     let r = c.args.role in
     let i = c.loop-bytes.bytes-index in
     let at : c.from-edge.result ≡ chunk_edge edges i = c.from-edge.ensures in
-    table_insert 256 (λ k. source r (chunk_edge edges k)) (λ k. target r (chunk_edge edges k)) i _ _ _ _ c.loop-bytes.invariant
-    (c.source.ensures ∙ ap (source r) at) (c.target.ensures ∙ ap (target r) at) c.insert.ensures
+    table_insert 256 (λ k. source r (chunk_edge edges k)) (λ k. target r (chunk_edge edges k)) i _ _ _ _ c.loop-bytes.invariant (c.source.ensures ∙ ap (source r) at) (c.target.ensures ∙ ap (target r) at) c.insert.ensures
 
 pub invariant_of-result : goal.invariant_of-result
 invariant_of-result c =
