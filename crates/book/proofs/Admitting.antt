@@ -13,8 +13,8 @@ use Rattle.calculus.specs.Calculi.{Calculus}
 use Rattle.book.specs.declared.filing.Draft.{Draft}
 use Rattle.book.specs.declared.line.Cited.TheVariants.{Nothing, One, Two}
 use Rattle.book.specs.declared.line.Line.{Line}
-use Rattle.book.specs.Lines.{cited, cited_lines, citing, label_of}
-use Rattle.book.specs.Drafts.{members, label, line_of, concluded, least_outside, unfit, principal_checks, range_checks, absent_checks, late_checks, draft_checks, Admitted, ChecksAreRight}
+use Rattle.book.specs.Lines.{cited, citing, label_of}
+use Rattle.book.specs.Drafts.{members, label, concluded, least_outside, unfit, principal_checks, range_checks, absent_checks, late_checks, draft_checks, Admitted, ChecksAreRight}
 use Rattle.bits.proofs.Tests.{never}
 
 with_none : {A B : Type 0} (g : A → B) (o : Option A) → with g o ≡ None → o ≡ None

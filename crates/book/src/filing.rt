@@ -1,18 +1,16 @@
 ghost use Rattle.std.specs.Prelude.{◌≡◌};
 ghost use Rattle.book.specs.Lines.{label_of};
 ghost use Rattle.book.specs.Drafts.{Checked, ChecksAreRight, range_checks, absent_checks, label, unfit, least_outside, concluded, members};
-ghost use Rattle.labels.specs.Labels.{absent_at};
-ghost use Rattle.refusals.specs.Checks.{Passed};
-ghost use Rattle.std.specs.Prelude.{◌^◌, ◌<◌, length};
-ghost use Rattle.std.specs.Option.{ForSome};
-ghost use Rattle.vocabulary.specs.Vocabularies.{concepts, theory};
+ghost use Rattle.labels.specs.Labels.{falling_at};
+ghost use Rattle.refusals.specs.Checks.{Passed, Answered};
+ghost use Rattle.vocabulary.specs.Vocabularies.{theory};
 
 use crate::line::{Cited, Line, Step};
 use crate::members::{check_principals, check_rising, check_standing, check_whole};
 use calculus::bank::Bank;
 use calculus::premise::Premise;
 use calculus::rule::Principals;
-use labels::members::read;
+use labels::members::{Reading, read};
 use labels::rows::first_outside;
 use refusals::Refusal;
 use refusals::checks::check_stands;
@@ -46,18 +44,15 @@ fn check_range<B: Bank>(bank: &B, f: &Draft) -> Result<(), Refusal>
     check_whole(f.members, 6)
 }
 
-// What the draft names has to stand, where `absent` is the first position of its members whose
-// member does not.
-fn check_named<B: Bank>(
+// What the draft names has to stand. Its label is read when the rest of it was asked.
+fn read_named<B: Bank>(
     bank: &B,
     v: &Vocabulary,
     lines: &[Line],
     f: &Draft,
-    absent: Option<usize>,
-) -> Result<(), Refusal>
-    requires is { absent ≡ absent_at (length (concepts v.now)) (members f.now) }
-    requires fits { ForSome absent (λ i. i < 2 ^ 63) }
-    ensures { Passed (absent_checks (B.Bank.calculus bank.now) (theory v.now) lines.now f.now) result }
+) -> Result<Reading, Refusal>
+    ensures { Answered (absent_checks (B.Bank.calculus bank.now) (theory v.now) lines.now f.now)
+        (λ reading. (reading.falling ≡ falling_at (members f.now)) × (reading.row ≡ label f.now)) result }
 {
     check_principals(f.on, v.len())?;
     let cites = bank.cites(f.rule);
@@ -67,7 +62,9 @@ fn check_named<B: Bank>(
     if cites > 1 {
         check_stands(f.n, lines.len(), 5)?;
     }
-    check_standing(absent, 6)
+    let reading = read(f.members, v.len());
+    check_standing(&reading, 6)?;
+    Ok(reading)
 }
 
 // The least concept of the row `y` that is outside conclusion `i`; `x` is the draft's label.
@@ -91,9 +88,8 @@ fn outside_conclusion<B: Bank>(
     first_outside(y, &row)
 }
 
-// The label of a line; the empty one if there is no such line. Whether the line stands was asked
-// before.
-fn label_of(lines: &[Line], k: u16) -> [u64; 16]
+/// The label of a line; the empty one if there is no such line.
+pub fn label_of(lines: &[Line], k: u16) -> [u64; 16]
     ensures { result ≡ label_of lines.now k }
 {
     match lines.get(k as usize) {
@@ -139,12 +135,11 @@ pub fn check<B: Bank>(
     ensures { Checked (B.Bank.calculus bank.now) (theory v.now) lines.now room f.now result }
 {
     check_range(bank, f)?;
-    let reading = read(f.members, v.len());
-    check_named(bank, v, lines, f, reading.absent)?;
+    let reading = read_named(bank, v, lines, f)?;
     if lines.len() >= room {
         return Err(Refusal::Full(room));
     }
-    check_rising(reading.falling, 6)?;
+    check_rising(&reading, 6)?;
     let label = reading.row;
     let at = Premise {
         vocabulary: v,

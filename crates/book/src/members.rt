@@ -1,10 +1,10 @@
-ghost use Rattle.std.specs.Prelude.{ℕ, ◌+◌, ◌/◌, ◌^◌, ◌<◌, [], ◌∷◌, length};
-ghost use Rattle.std.specs.Option.{ForSome};
+ghost use Rattle.std.specs.Prelude.{ℕ, ◌+◌, ◌/◌, [], ◌∷◌, length};
 ghost use Rattle.labels.specs.Labels.{is_cut};
 ghost use Rattle.refusals.specs.Checks.{when, with, Passed};
 ghost use Rattle.book.specs.Drafts.{principal_checks};
 
 use calculus::rule::Principals;
+use labels::members::Reading;
 use refusals::Refusal;
 use refusals::checks::check_stands;
 
@@ -34,20 +34,20 @@ pub fn check_whole(members: &[u8], from: u8) -> Result<(), Refusal>
     }
 }
 
-/// Whether all members of a label stand, where `absent` is the first position whose member does
-/// not.
-pub fn check_standing(absent: Option<usize>, from: u8) -> Result<(), Refusal>
-    requires { ForSome absent (λ i. i < 2 ^ 63) }
-    ensures { Passed (with (λ i. (4, i + from)) absent ∷ []) result }
+/// Whether all members of a label stand.
+pub fn check_standing(reading: &Reading, from: u8) -> Result<(), Refusal>
+    ensures { Passed (with (λ i. (4, i + from)) reading.now.absent ∷ []) result }
 {
-    absent.map_or(Ok(()), |i| Err(Refusal::Absent(i + from as usize)))
+    reading
+        .absent
+        .map_or(Ok(()), |i| Err(Refusal::Absent(i + from as usize)))
 }
 
-/// Whether each member of a label is above the one before it, where `falling` is the first position
-/// whose member is not.
-pub fn check_rising(falling: Option<usize>, from: u8) -> Result<(), Refusal>
-    requires { ForSome falling (λ i. i < 2 ^ 63) }
-    ensures { Passed (with (λ i. (6, i + from)) falling ∷ []) result }
+/// Whether each member of a label is above the one before it.
+pub fn check_rising(reading: &Reading, from: u8) -> Result<(), Refusal>
+    ensures { Passed (with (λ i. (6, i + from)) reading.now.falling ∷ []) result }
 {
-    falling.map_or(Ok(()), |i| Err(Refusal::Order(i + from as usize)))
+    reading
+        .falling
+        .map_or(Ok(()), |i| Err(Refusal::Order(i + from as usize)))
 }

@@ -22,11 +22,11 @@ impl Docket<'_> {
         self.enter(Subject::Claim)?;
         check_whole(members, 0)?;
         let reading = read(members, self.vocabulary.len());
-        check_standing(reading.absent, 0)?;
+        check_standing(&reading, 0)?;
         if self.claims.is_full() {
             return Err(Refusal::Full(MOST_CLAIMS));
         }
-        check_rising(reading.falling, 0)?;
+        check_rising(&reading, 0)?;
         self.claims
             .add(reading.row)
             .ok_or(Refusal::Full(MOST_CLAIMS))

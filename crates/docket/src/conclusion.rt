@@ -63,8 +63,8 @@ impl Docket<'_> {
     {
         let index = self.check_inquiry(bank, asked, memory.len())?;
         let reading = read(asked.members, self.vocabulary.len());
-        check_standing(reading.absent, 5)?;
-        check_rising(reading.falling, 5)?;
+        check_standing(&reading, 5)?;
+        check_rising(&reading, 5)?;
         let label = reading.row;
         let at = Premise {
             vocabulary: &self.vocabulary,

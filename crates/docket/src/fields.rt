@@ -8,12 +8,16 @@ use logic::role::ROLES;
 use refusals::Refusal;
 use refusals::checks::check_stands;
 
-// What one of the two numbers after a tag is.
+/// What one of the two numbers after a tag is.
 #[derive(Clone, Copy, Debug, PartialEq, Eq)]
-pub(crate) enum Use {
+pub enum Use {
+    /// nothing that the tag uses: the number is 0
     Unused,
+    /// a name, 0 to 1,023
     Name,
+    /// a role, 0 to 127
     Role,
+    /// a concept that stands
     Concept,
 }
 
@@ -54,8 +58,9 @@ pub(crate) fn check_role(role: u16, position: u8) -> Result<(), Refusal>
     Use::Role.check_range(role, position)
 }
 
-// The concept that a tag and two numbers write, where `count` concepts stand.
-pub(crate) fn read_concept(count: usize, tag: u16, a: u16, b: u16) -> Result<Concept, Refusal>
+/// The concept that a tag and two numbers write, where `count` concepts stand; or the first of the
+/// three that is out of range (refusal 3), or does not stand (refusal 4).
+pub fn read_concept(count: usize, tag: u16, a: u16, b: u16) -> Result<Concept, Refusal>
     ensures { Read count tag a b result }
 {
     let tag = Tag::try_from(tag).map_err(|_| Refusal::Range(0))?;

@@ -2,7 +2,7 @@
 
 pub mod claiming;
 pub mod conclusion;
-mod fields;
+pub mod fields;
 pub mod filing;
 pub mod phase;
 pub mod questions;
@@ -17,7 +17,8 @@ use claims::Claims;
 use logic::concept::Concept;
 use refusals::Refusal;
 use register::store::Register;
-use vocabulary::{MOST_CONCEPTS, Vocabulary};
+pub use vocabulary::MOST_CONCEPTS;
+use vocabulary::Vocabulary;
 
 /// The most lines that a host can ask for.
 pub const MOST_LINES: usize = 4096;

@@ -65,8 +65,8 @@ impl Docket<'_> {
     {
         check_whole(members, 0)?;
         let reading = read(members, self.vocabulary.len());
-        check_standing(reading.absent, 0)?;
-        check_rising(reading.falling, 0)?;
+        check_standing(&reading, 0)?;
+        check_rising(&reading, 0)?;
         Ok(find_within(self.book.entries(), &reading.row))
     }
 }

@@ -39,10 +39,10 @@ ClosedByTable t (two n u w) =
 
 -- EVERY TREE THAT IS CLOSED BY THE TABLE AND FOR WHICH THERE IS ROOM IS TAKEN by a sealed docket,
 -- by the house's ten rules, in whatever order its lines are filed, if children come before their
--- parents, each line cites the numbers that were answered to its children, and the run files
--- nothing else: each line is answered with its number and stands as it was drafted, and so the root
--- stands with the root's label. Any banks may have been lent before, and to what is refused or
--- asked between.
+-- parents, each line has a label of whole members and cites the numbers that were answered to its
+-- children, and the run files nothing else: each line is answered with its number and stands as it
+-- was drafted, and so the root stands with the root's label. Any banks may have been lent before,
+-- and to what is refused or asked between.
 abbrev pub HouseTreesAreTaken : Type 0
 HouseTreesAreTaken =
     (d : Docket) → Reached any d → d.phase ≡ Sealed

@@ -2,9 +2,9 @@
 use Rattle.std.proofs.Common.{◌≡◌, ℕ, suc, ◌+◌, ◌-◌, ◌*◌, ◌/◌, ◌%◌, ◌^◌, ◌<◌, ◌≤◌, min, not, ◌&&◌, ltb, leb, List, get_or, sym, ap, ◌∙◌, ap₂, ⊎_elim, arith}
 use mathlib.Core.Bool.{and_comm}
 use lib.Bits.{bit_and, bit_xor}
-use Rattle.std.proofs.lemmas.Bool.{cases_lt, le-leb, lt-leb}
+use Rattle.std.proofs.lemmas.Bool.{cases_lt, le-leb, lt-leb, and_right}
 use Rattle.bits.specs.Bits.{bit, has}
-use Rattle.bits.proofs.BitFacts.{bit-bit_and}
+use Rattle.bits.proofs.BitFacts.{bit_zero, bit-bit_and}
 use Rattle.bits.proofs.Words.{bit_without, bit_ones, bit_from}
 use Rattle.labels.proofs.WordSearch.{Tests}
 
@@ -31,6 +31,10 @@ pub next_tests : (r : List ℕ) (c w k word : ℕ) → k ≡ c - 64 * w → word
 next_tests r c w k word e f j l =
     ap (λ n. bit n j) f ∙ bit_from (get_or r w 0) k j
     ∙ ap₂ (λ p q. p && q) (same_leb k j c (64 * w + j) (λ h. omega arith) (λ h. omega arith)) (sym (at_word r w j l))
+
+-- and of an empty word
+pub empty_tests : (r : List ℕ) (c w : ℕ) → get_or r w 0 ≡ 0 → Tests 0 w (λ i. leb c i && has r i)
+empty_tests r c w e j l = bit_zero j ∙ sym (and_right (leb c (64 * w + j)) _ (at_word r w j l ∙ ap (λ n. bit n j) e ∙ bit_zero j))
 
 pub cut_tests : (r : List ℕ) (count w k ones : ℕ) → k ≡ count - 64 * w → ones ≡ 2 ^ min 64 k - 1
     → Tests (bit_and (get_or r w 0) ones) w (λ i. ltb i count && has r i)

@@ -18,6 +18,8 @@ pub struct Reading {
     pub falling: Option<usize>,
     /// the members as a row; those past 1,023 are left out
     pub row: [u64; 16],
+    ghost absent_fits: { ForSome absent (λ i. i < 2 ^ 63) },
+    ghost falling_fits: { ForSome falling (λ i. i < 2 ^ 63) },
 }
 
 // The position that was found before, or else this one, if it is such a one.
@@ -37,8 +39,6 @@ pub fn read(members: &[u8], count: usize) -> Reading
     ensures absent { result.absent ≡ absent_at count (numbers members.now) }
     ensures falling { result.falling ≡ falling_at (numbers members.now) }
     ensures row { result.row ≡ row (numbers members.now) }
-    ensures absent_fits { ForSome result.absent (λ i. i < 2 ^ 63) }
-    ensures falling_fits { ForSome result.falling (λ i. i < 2 ^ 63) }
 {
     let mut absent = None;
     let mut falling = None;

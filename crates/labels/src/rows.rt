@@ -48,6 +48,10 @@ pub fn next_from(row: &[u64; 16], c: u16) -> Option<u16>
     let from = c as usize;
     // by index: it begins in the middle of the row, and the place is part of the answer
     for w in from / 64..16 {
+        // most words of most labels are empty
+        if row[w] == 0 {
+            continue;
+        }
         if let Some(j) = lowest(without_low(row[w], from.saturating_sub(64 * w))) {
             return Some(64 * w as u16 + j);
         }

@@ -182,17 +182,31 @@ fn fill_concepts(alloc: Global, docket: &mut Docket, capacity: u16) -> Result<()
     is_full(alloc, docket, capacity)
 }
 
-// The memory is longer than these capacities.
+// Capacities that the memory just fits, and those that it is longer than.
 #[test]
 fn concepts(rt: HostRuntime) -> Result<(), Fail> {
     let mut concepts = [Concept::Top; 1025];
-    for capacity in [1, 2, 3, 1023, 1024] {
+    for (capacity, size) in [
+        (1, 1),
+        (1, 1025),
+        (2, 3),
+        (2, 1025),
+        (3, 3),
+        (3, 1025),
+        (1023, 1024),
+        (1023, 1025),
+        (1024, 1024),
+        (1024, 1025),
+    ] {
+        let Some(memory) = concepts.get_mut(..size) else {
+            return Err(Fail::new("more memory than there is"));
+        };
         let mut lines = [Line::default(); 1];
         let room = Room {
             concepts: capacity as usize,
             lines: 1,
         };
-        let mut docket = opened(room, &mut concepts, &mut lines)?;
+        let mut docket = opened(room, memory, &mut lines)?;
         fill_concepts(rt.alloc(), &mut docket, capacity)?;
     }
     Ok(())

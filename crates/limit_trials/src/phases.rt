@@ -8,11 +8,15 @@ const ROOM: Room = Room {
 };
 
 // Before the seal there is no question about roles or conclusions, no line, no claim and no closing, whatever they name.
-static REFUSED_BEFORE: [Step; 16] = [
+static REFUSED_BEFORE: [Step; 20] = [
     Below(0, 0, Err((2, 0))),
+    Below(2, 2, Err((2, 0))),
+    Below(127, 127, Err((2, 0))),
     Below(127, 2, Err((2, 0))),
     Below(128, 128, Err((2, 0))),
     Transitive(0, Err((2, 0))),
+    Transitive(2, Err((2, 0))),
+    Transitive(127, Err((2, 0))),
     Transitive(128, Err((2, 0))),
     Concludes([6, 0, 0, 0, 0], &[0], Err((2, 0))),
     Concludes([11, 9, 9, 9, 9], &[9, 9], Err((2, 0))),
@@ -41,14 +45,16 @@ static FILED_BEFORE: [Step; 7] = [
 static SEAL: [Step; 1] = [Record(&[6], Ok(0))];
 
 // After it there is no axiom of either list and no other seal, whatever they name.
-static REFUSED_BEHIND: [Step; 11] = [
+static REFUSED_BEHIND: [Step; 13] = [
     Record(&[1, 0, 2], Err((2, 0))),
     Record(&[1, 2, 0], Err((2, 0))),
     Record(&[1, 128, 0], Err((2, 0))),
     Record(&[1, 0, 128], Err((2, 0))),
     Record(&[1, 65535, 65535], Err((2, 0))),
     Record(&[2, 0], Err((2, 0))),
+    Record(&[2, 2], Err((2, 0))),
     Record(&[2, 128], Err((2, 0))),
+    Record(&[2, 65535], Err((2, 0))),
     Record(&[5, 0], Err((2, 0))),
     Record(&[5, 1], Err((2, 0))),
     Record(&[5, 65535], Err((2, 0))),

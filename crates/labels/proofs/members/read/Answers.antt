@@ -1,4 +1,4 @@
-use Rattle.std.proofs.Common.{◌≡◌, ◌+◌, ◌-◌, ◌<◌, leb, ltb, length, refl, sym, ap, ◌∙◌, inl, arith, length-drop}
+use Rattle.std.proofs.Common.{◌≡◌, ℕ, ◌+◌, ◌-◌, ◌<◌, ◌≤◌, leb, ltb, List, [], length, drop, refl, sym, ap, ◌∙◌, inl, arith, length-drop}
 use Rattle.file_bytes.specs.Bytes.{numbers}
 use Rattle.file_bytes.proofs.Numbers.{numbers_length}
 use Rattle.bits.proofs.BitFacts.{length_inserted}
@@ -66,20 +66,35 @@ loop-i-preserved c =
     }
 
 -- at the end nothing is left
+all_read : (ms rest : List ℕ) (n : ℕ) → n ≤ length ms → rest ≡ drop n ms → rest ≡ [] → n ≡ length ms
+all_read ms rest n within left none = omega (arith, length-drop n ms, ap length (sym left ∙ none))
+
+-- a position that was found is one of the members'
+pub invariant_of-result-clause-absent_fits : goal.invariant_of-result-clause-absent_fits
+invariant_of-result-clause-absent_fits c i e =
+    let ms = numbers c.args.members.now in
+    let v = c.loop-i.invariant in
+    let all = all_read ms _ _ v.within v.left c.in-None.ensures.steps.0.0 in
+    let l = (least_some c.loop-i.i-iterator.count i (absent c.args.count ms) (sym v.absent ∙ e)).0 in
+    omega (arith, all, numbers_length c.args.members.now)
+
+pub invariant_of-result-clause-falling_fits : goal.invariant_of-result-clause-falling_fits
+invariant_of-result-clause-falling_fits c i e =
+    let ms = numbers c.args.members.now in
+    let v = c.loop-i.invariant in
+    let all = all_read ms _ _ v.within v.left c.in-None.ensures.steps.0.0 in
+    let l = (least_some c.loop-i.i-iterator.count i (falls ms) (sym v.falling ∙ e)).0 in
+    omega (arith, all, numbers_length c.args.members.now)
+
 pub returns : goal.returns
 unfolding row
 returns c =
     let ms = numbers c.args.members.now in
     let v = c.loop-i.invariant in
     let rest = c.in-None.ensures.steps.0.0 in
-    let gone = ap length (sym v.left ∙ rest) in
-    let all : c.loop-i.i-iterator.count ≡ length ms = (let w = v.within in omega (arith, length-drop c.loop-i.i-iterator.count ms, gone)) in
+    let all = all_read ms _ _ v.within v.left rest in
     record {
       absent = v.absent ∙ ap (λ n. least n (absent c.args.count ms)) all;
       falling = v.falling ∙ ap (λ n. least n (falls ms)) all;
       row = sym (ap (filled c.loop-i.row) rest) ∙ v.filled;
-      absent_fits = λ i e. let l = (least_some c.loop-i.i-iterator.count i (absent c.args.count ms) (sym v.absent ∙ e)).0 in
-          omega (arith, all, numbers_length c.args.members.now);
-      falling_fits = λ i e. let l = (least_some c.loop-i.i-iterator.count i (falls ms) (sym v.falling ∙ e)).0 in
-          omega (arith, all, numbers_length c.args.members.now);
     }
