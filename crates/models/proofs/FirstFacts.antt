@@ -1,9 +1,13 @@
 -- What a search by the library's methods finds.
-use Rattle.std.proofs.Common.{◌≡◌, ℕ, ◌<◌, ◌≤◌, Bool, true, false, T, ◌↔◌, List, length, get_or, Some, None, Option, sym, ◌∙◌, subst, arith}
+use Rattle.std.proofs.Common.{◌≡◌, ℕ, min, ◌<◌, ◌≤◌, Bool, true, false, ◌&&◌, leb, T, ◌↔◌, List, length, get_or, Some, None, Option, refl, sym, ap, ◌∙◌, subst, ⊎_elim, arith}
+use Rattle.std.proofs.lemmas.Bool.{cases_lt, le-leb, leb-true, false≢true}
 use Rattle.std.specs.Bool.{MatchBool}
 use Rattle.std.specs.Option.{MatchOption}
 use Rattle.std.specs.List.{AllWithin, HoldsAt, range_with_len}
 use Rattle.std.proofs.lemmas.List.FromFn.{length-range_with_len, get_or-range_with_len}
+use Rattle.bits.specs.Bits.{has}
+use Rattle.labels.specs.Least.{least}
+use Rattle.labels.proofs.LeastFacts.{least_all, least_some}
 use Rattle.models.specs.Firsts.{First}
 
 pub first_map : (P Q : ℕ → Type 0) (n : ℕ) (o : Option ℕ) → ((k : ℕ) → k < n → P k ↔ Q k) → First P n o → First Q n o
@@ -36,3 +40,35 @@ pub all_numbers : (P : ℕ → Type 0) (n : ℕ) (r : Bool) →
     MatchBool r (AllWithin P (range_with_len 0 n) 0 (length (range_with_len 0 n))) ((k : ℕ) × (k < length (range_with_len 0 n)) × HoldsAt (λ x. P x → ⊥) (range_with_len 0 n) k) →
     T r ↔ ((k : ℕ) → k < n → P k)
 all_numbers P n = all_read P (λ x. x) (λ k. k) 0 (range_with_len 0 n) n (length-range_with_len 0 n) (λ k l. get_or-range_with_len 0 n k 0 l ∙ omega arith) _ ((λ f. f), λ f. f)
+
+-- A label is looked through up to n, where so many concepts stand or the label ends, and all that it has there pass. Then
+-- its first member from n on, if any, is the first of all that does not stand or does not pass.
+module _ (label : List ℕ) (count n : ℕ) (passes : ℕ → Type 0) (is : n ≡ min count 1024) (before : (c : ℕ) → c < n → has label c ≡ true → passes c) where
+  abbrev behind : ℕ → Bool
+  behind k = leb n k && has label k
+
+  stands : (c : ℕ) → c < n → has label c ≡ true → (c < count) × passes c
+  stands c l h = (omega (arith, is), before c l h)
+
+  none_behind : (c : ℕ) → n ≤ c → has label c ≡ true → behind c ≡ false → ⊥
+  none_behind c l h e = false≢true (sym e ∙ ap (λ b. b && has label c) (le-leb n c l) ∙ h)
+
+  pub first_behind : (o : Option ℕ) → o ≡ least 1024 behind → First (λ c. has label c ≡ true → (c < count) × passes c) 1024 o
+  first_behind None e = λ c l h. ⊎_elim
+      (λ (b : c < n). stands c b h)
+      (λ (b : n ≤ c). absurd (none_behind c b h (least_all 1024 behind (sym e) c l)))
+      (cases_lt c n)
+  first_behind (Some c) e =
+      let (l, t, rest) = least_some 1024 c behind (sym e) in
+      let (low, member) = both_true (leb n c) (has label c) t in (
+        l,
+        (λ p. let s = (p member).0 in let m = leb-true n c low in absurd (omega (arith, is))),
+        λ k h m. ⊎_elim
+            (λ (b : k < n). stands k b m)
+            (λ (b : n ≤ k). absurd (none_behind k b m (rest k h)))
+            (cases_lt k n),
+      )
+    where
+      both_true : (a b : Bool) → (a && b) ≡ true → (a ≡ true) × (b ≡ true)
+      both_true true b h = (refl, h)
+      both_true false b h = absurd (false≢true h)

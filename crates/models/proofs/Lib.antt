@@ -1,6 +1,7 @@
 pub mod FirstFacts
 pub mod ChunkFacts
 pub mod EdgeFacts
+pub mod SearchFacts
 pub mod PartFacts
 pub mod PairFacts
 pub mod TableFacts

@@ -1,11 +1,14 @@
 -- A role axiom is met exactly if every edge has what it asks.
 use Rattle.std.proofs.Common.{◌≡◌, ℕ, ◌/◌, ◌%◌, ◌<◌, Bool, true, false, cond, T, eqb, ◌↔◌, List, sym, ap, subst, arith}
 use Rattle.std.proofs.lemmas.Bool.{cond_both, false_from_ne_true}
-use Rattle.logic.specs.Interpretations.{Element, leads, Leads, Includes, IsTransitive}
+use Rattle.logic.specs.declared.role.RoleAxiom.{RoleAxiom}
+use Rattle.logic.specs.declared.role.RoleAxiom.TheVariants.{Inclusion, Transitivity}
+use Rattle.logic.specs.Interpretations.{Element, leads, Leads, Includes, IsTransitive, MeetsRoleAxiom}
 use Rattle.models.specs.declared.Model.{Model}
-use Rattle.models.specs.Items.{edges_in, edge_role, edge_from, edge_to, edge_source, edge_target, edge_at, joined}
+use Rattle.models.specs.declared.items.Edge.{Edge}
+use Rattle.models.specs.Items.{edges_in, edge_role, edge_from, edge_to, edge_source, edge_target, edge_at, source, target, joined}
 use Rattle.models.specs.Models.{WellFormed, described}
-use Rattle.models.specs.Pairs.{PairIncluded, PairContinued}
+use Rattle.models.specs.Pairs.{PairIncluded, PairContinued, Shortcut}
 use Rattle.models.proofs.EdgeFacts.{joined_out, joined_in}
 
 -- edge i is a pair of role r that leads from x to y
@@ -84,3 +87,17 @@ module _ (m : Model) where
           let (j, q) = leads_out r _ z u in
           f _ _ z (element m _ (source_in_range r i k)) (element m _ (target_in_range r i k)) (subst (λ b. Element (described m) b) q.target_is (element m _ (target_in_range r j q.listed))) (leads_in r i k e) u,
     )
+
+    -- an edge goes on in one step exactly if it has its shortcut with each edge of the role's name
+    pub shortcuts : (r : ℕ) (e : Edge) → ((k : ℕ) → k < edges_in es → edge_role es k ≡ r / 2 → Shortcut m r e (edge_at es k)) ↔ PairContinued m r r e
+    shortcuts r e = (
+      (λ f z h t.
+          let (i, p) = leads_out r (target r e) z t in
+          subst (λ b. Leads (described m) r (source r e) b) p.target_is (f i p.listed p.role_is p.source_is)),
+      λ g k l q s. g (edge_target es r k) (target_small r k l) (subst (λ a. Leads (described m) r a (edge_target es r k)) s (leads_in r k l q)),
+    )
+
+    -- without edges every role axiom is met
+    pub none_broken : edges_in es ≡ 0 → (a : RoleAxiom) → MeetsRoleAxiom (described m) a
+    none_broken e (Inclusion r s) = (pairs_included r s).0 (λ k l. absurd (omega arith))
+    none_broken e (Transitivity r) = (pairs_continued r).0 (λ k l. absurd (omega arith))

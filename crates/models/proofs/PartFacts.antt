@@ -1,37 +1,22 @@
 -- The edges of a role name as a part of the list.
-use Rattle.std.proofs.Common.{◌≡◌, ℕ, zero, suc, refl, ◌+◌, ◌-◌, ◌<◌, ◌≤◌, Bool, true, false, T, ◌&&◌, eqb, ltb, ◌↔◌, List, [], length, get_or, take, drop, sym, ap, ◌∙◌, subst, inl, inr, ⊎_elim, arith, ltb-true, eqb→eq, length-drop, get_or-take, get_or-drop}
-use Rattle.std.proofs.lemmas.Bool.{cases_eq, cases_lt, ltb-false}
-use Rattle.std.proofs.lemmas.List.{length-take}
-use Rattle.std.specs.List.Sorted.{IsNonDecreasingBy, IsPartitionPoint}
+use Rattle.std.proofs.Common.{◌≡◌, ℕ, refl, ◌+◌, ◌-◌, ◌<◌, ◌≤◌, Bool, true, false, T, ◌&&◌, eqb, ltb, ◌↔◌, List, [], length, get_or, set, replicate, take, drop, sym, ap, ◌∙◌, subst, inl, inr, ⊎_elim, arith, eqb→eq, length-drop, get_or-take, get_or-drop}
+use Rattle.std.proofs.lemmas.Bool.{cases_eq, cases_lt, lt-ltb, le-ltb}
+use Rattle.std.proofs.lemmas.List.{length-take, length-set, get_or-replicate, get_or-set_other}
+use Rattle.std.proofs.lemmas.Grind.{get_or-set_at}
+use Rattle.std.specs.List.Sorted.{IsNonDecreasingBy}
 use Rattle.std.proofs.lemmas.List.Sorted.{IsNonDecreasingBy-from_all_adjacent}
-use Rattle.std.specs.Array.{IsFromFnResult, IsFromFnResultFrom}
-use denote.Param.Members.{Mut, Called}
 use Rattle.models.specs.declared.Model.{Model}
 use Rattle.models.specs.declared.items.Edge.{Edge}
+use Rattle.models.specs.declared.edge_parts.Part.{Part}
 use Rattle.models.specs.Items.{edges_in, edge_role, edge_at, source, target, AreEdges, TripleBefore}
 use Rattle.models.specs.Models.{WellFormed}
-use Rattle.models.specs.EdgeParts.{BeginsAt, AllBegin, IsEdge, AreEdgesOf}
+use Rattle.models.specs.EdgeParts.{IsPart, PartsOf, with_part, no_part, IsEdge, AreEdgesOf}
 use Rattle.bits.specs.Below.{some_below}
 use Rattle.bits.proofs.Tests.{and_out, and_in, eq_T}
 use Rattle.bits.proofs.SomeBelow.{some_there, there_some}
 use Rattle.models.proofs.PairFacts.{source_small, target_small}
 
--- An array that was made by a function of its places: what each call says of its answer, at its place. A call of f leaves
--- it as it was.
-module _ {F : Type 0} (g : Mut F (ℕ × Unit {0}) ℕ) (f : F) (P : ℕ → ℕ → Type 0) (answers : (i y : ℕ) (q : F) → Called g f (i, tt) y q → (q ≡ f) × P i y) where
-  made_from : (ys : List ℕ) (p : F) → p ≡ f → (i n : ℕ) → IsFromFnResultFrom g p ys i n → (k : ℕ) → i ≤ k → k < i + n → P k (get_or ys k 0)
-  made_from ys p e i zero r k l m = absurd (omega arith)
-  made_from ys p e i (suc n) (q, y, here, call, rest) k l m =
-      let (same, value) = answers i y q (subst (λ (x : F). Called g x (i, tt) y q) e call) in
-      ⊎_elim
-      (λ (j : i ≡ k). subst (λ x. P x (get_or ys x 0)) j (subst (P i) (sym (here.1 0)) value))
-      (λ (j : i ≡ k → ⊥). made_from ys q same (i + 1) n rest k (omega arith) (omega arith))
-      (cases_eq i k)
-
-  pub each_made : (ys : List ℕ) (n : ℕ) → IsFromFnResult g f ys n → (k : ℕ) → k < n → P k (get_or ys k 0)
-  each_made ys n r k l = made_from ys f refl 0 n r.each k (omega arith) (omega arith)
-
-same_truth : (a b : Bool) → (T a → T b) → (T b → T a) → a ≡ b
+pub same_truth : (a b : Bool) → (T a → T b) → (T b → T a) → a ≡ b
 same_truth true true f g = refl
 same_truth true false f g = absurd (f tt)
 same_truth false true f g = absurd (g tt)
@@ -52,58 +37,136 @@ roles_rise m chunks formed are = IsNonDecreasingBy-from_all_adjacent (λ b. edge
     let next = ap (λ e. e.role_name) (are.reads (k + 1) d (omega arith)) in
     omega (arith, rises, ap (edge_role es) before, here, next))
 
--- the place between the edges whose role name is below r and the others
-pub begins : (es : List ℕ) (chunks : List (List ℕ)) (r i : ℕ) → AreEdges es chunks → i ≤ length chunks
-    → IsPartitionPoint (λ b. ltb (edge_role b 0) r ≡ true) (λ b. ltb (edge_role b 0) r ≡ false) chunks i → BeginsAt es r i
-begins es chunks r i are l p =
+-- and so they do by place
+pub roles_rise_by_place : (m : Model) (chunks : List (List ℕ)) → WellFormed m → AreEdges m.edges.now chunks
+    → (j k : ℕ) → j ≤ k → k < edges_in m.edges.now → edge_role m.edges.now j ≤ edge_role m.edges.now k
+roles_rise_by_place m chunks formed are j k h l =
     let many = are.many in
-    record {
+    let rise = roles_rise m chunks formed are j k [] h (omega arith) in
+    omega (arith, rise, ap (λ e. e.role_name) (are.reads j [] (omega arith)), ap (λ e. e.role_name) (are.reads k [] l))
+
+module _ (es : List ℕ) where
+  -- an edge of another role name leaves a part as it is
+  part_stays : (n r : ℕ) (part : Part) → IsPart es n r part → (edge_role es n ≡ r → ⊥) → IsPart es (n + 1) r part
+  part_stays n r part p other =
+      let within = p.within in record {
+        in_order = p.in_order;
+        within = omega arith;
+        each = p.each;
+        all_after = λ k l e. p.all_after k (before k l e) e;
+        all_before = λ k l e. p.all_before k (before k l e) e;
+      }
+    where
+      before : (k : ℕ) → k < n + 1 → edge_role es k ≡ r → k < n
+      before k l e = ⊎_elim (λ (q : k ≡ n). absurd (other (subst (λ i. edge_role es i ≡ r) q e))) (λ (d : k ≡ n → ⊥). omega arith) (cases_eq k n)
+
+  -- The first n edges are walked: those from `start` on have the name that is walked, and no earlier ones have; the other
+  -- names have their parts of them.
+  pub record Walked (n name start : ℕ) (parts : List Part) : Type 0 where
+    pub size : length parts ≡ 64
+    pub within : start ≤ n
+    pub begun : 0 < n → start < n
+    pub not_begun : n ≡ 0 → name ≡ 64
+    pub here : (k : ℕ) → start ≤ k → k < n → edge_role es k ≡ name
+    pub none_before : (k : ℕ) → k < start → edge_role es k ≡ name → ⊥
+    pub others : (r : ℕ) → r < 64 → (r ≡ name → ⊥) → IsPart es n r (get_or parts r no_part)
+
+  pub walk_begins : Walked 0 64 0 (replicate 64 no_part)
+  walk_begins = record {
+    size = refl;
+    within = omega arith;
+    begun = λ l. absurd (omega arith);
+    not_begun = λ e. refl;
+    here = λ k a b. absurd (omega arith);
+    none_before = λ k a e. absurd (omega arith);
+    others = λ r h d. subst (IsPart es 0 r) (sym (get_or-replicate 64 r no_part no_part h)) (record {
+      in_order = omega arith;
       within = omega arith;
-      before = λ k h. omega (arith, ltb-true _ _ (p.0 k [] (omega arith) h), ap (λ e. e.role_name) (are.reads k [] (omega arith)));
-      from_there = λ k h n. omega (arith, ltb-false _ _ (p.1 k [] h (omega arith)), ap (λ e. e.role_name) (are.reads k [] n));
+      each = λ k a b. absurd (omega arith);
+      all_after = λ k l. absurd (omega arith);
+      all_before = λ k l. absurd (omega arith);
+    });
+  }
+
+  module _ (n name start : ℕ) (parts : List Part) (w : Walked n name start parts) where
+    -- the part of the name that is walked
+    abbrev walked : Part
+    walked = record { start = start; end = n }
+
+    is_walked : IsPart es n name walked
+    is_walked = record {
+      in_order = w.within;
+      within = omega arith;
+      each = w.here;
+      all_after = λ k l e. ⊎_elim (λ (h : k < start). absurd (w.none_before k h e)) (λ (h : start ≤ k). h) (cases_lt k start);
+      all_before = λ k l e. l;
     }
 
-module _ (es starts : List ℕ) (begin : AllBegin es starts) (name : ℕ) (is_name : name < 64) where
-  abbrev start : ℕ
-  start = get_or starts name 0
+    -- with it all names have their parts
+    pub all_parts : PartsOf es n (with_part parts name walked)
+    all_parts r h = ⊎_elim
+        (λ (q : r ≡ name).
+        let small : ltb name 64 ≡ true = lt-ltb name 64 (omega arith) in
+        rw small (subst (IsPart es n r) (sym (get_or-set_at parts name r walked no_part q (let s = w.size in omega arith)))
+        (subst (λ a. IsPart es n a walked) (sym q) is_walked)))
+        (λ (d : r ≡ name → ⊥). ⊎_elim
+        (λ (l : name < 64). rw (lt-ltb name 64 l) (subst (IsPart es n r) (sym (get_or-set_other parts name r walked no_part d)) (w.others r h d)))
+        (λ (l : 64 ≤ name). rw (le-ltb name 64 l) (w.others r h d))
+        (cases_lt name 64))
+        (cases_eq r name)
 
-  abbrev end : ℕ
-  end = get_or starts (name + 1) 0
+    -- an edge more of the name that is walked
+    pub walk_on : edge_role es n ≡ name → name < 64 → Walked (n + 1) name start parts
+    walk_on e small = let within = w.within in record {
+      size = w.size;
+      within = omega arith;
+      begun = λ l. omega arith;
+      not_begun = λ z. absurd (omega arith);
+      here = λ k a b. ⊎_elim (λ (l : k < n). w.here k a l) (λ (l : n ≤ k). let q : n ≡ k = omega arith in subst (λ i. edge_role es i ≡ name) q e) (cases_lt k n);
+      none_before = w.none_before;
+      others = λ r h d. part_stays n r (get_or parts r no_part) (w.others r h d) (λ q. d (sym q ∙ e));
+    }
 
-  -- a part ends where the next begins
-  pub in_order : start ≤ end
-  in_order = ⊎_elim
-      (λ (l : end < start).
-      let here = begin name (omega arith) in
-      let next = begin (name + 1) (omega arith) in
-      absurd (let a = here.before end l in let b = next.from_there end (let w = here.within in omega arith) in omega arith))
-      (λ (l : start ≤ end). l)
-      (cases_lt end start)
+    -- and one of another, which is behind all that were walked
+    pub walk_over : ((j k : ℕ) → j ≤ k → k < edges_in es → edge_role es j ≤ edge_role es k) → (next : ℕ) → n < edges_in es → edge_role es n ≡ next → (next ≡ name → ⊥)
+        → Walked (n + 1) next n (with_part parts name walked)
+    walk_over rise next l e other = record {
+      size = ⊎_elim
+          (λ (s : name < 64). rw (lt-ltb name 64 s) (length-set parts name walked ∙ w.size))
+          (λ (s : 64 ≤ name). rw (le-ltb name 64 s) w.size)
+          (cases_lt name 64);
+      within = omega arith;
+      begun = λ h. omega arith;
+      not_begun = λ z. absurd (omega arith);
+      here = λ k a b. let q : n ≡ k = omega arith in subst (λ i. edge_role es i ≡ next) q e;
+      none_before = λ k h q.
+          let last = w.here (n - 1) (let b = w.begun (omega arith) in omega arith) (omega arith) in
+          let low = rise k (n - 1) (omega arith) (omega arith) in
+          let high = rise (n - 1) n (omega arith) l in
+          other (omega arith);
+      others = λ r h d. part_stays n r _ (all_parts r h) (λ q. d (sym q ∙ e));
+    }
 
-  pub part_of : (chunks : List (List ℕ)) → AreEdges es chunks → AreEdgesOf es name (take (end - start) (drop start chunks))
+-- the chunks at the places of a part
+module _ (es : List ℕ) (name : ℕ) (part : Part) (is : IsPart es (edges_in es) name part) where
+  pub part_of : (chunks : List (List ℕ)) → AreEdges es chunks → AreEdgesOf es name (take (part.end - part.start) (drop part.start chunks))
   part_of chunks are =
-      let here = begin name (omega arith) in
-      let next = begin (name + 1) (omega arith) in
-      let long = length-take (end - start) (drop start chunks) in
-      let rest = length-drop start chunks in
+      let long = length-take (part.end - part.start) (drop part.start chunks) in
+      let rest = length-drop part.start chunks in
       let many = are.many in
-      let here_within = here.within in
-      let next_within = next.within in
-      let order = in_order in
-      let is_edge : (k : ℕ) → k < end - start → IsEdge es (take (end - start) (drop start chunks)) k (start + k) = λ k l. record {
+      let within = is.within in
+      let order = is.in_order in
+      let is_edge : (k : ℕ) → k < part.end - part.start → IsEdge es (take (part.end - part.start) (drop part.start chunks)) k (part.start + k) = λ k l. record {
         is_chunk = omega arith;
         is_listed = omega arith;
-        same = λ d. ap (λ b. edge_at b 0) (get_or-take (end - start) (drop start chunks) k d l ∙ get_or-drop start chunks k d) ∙ are.reads (start + k) d (omega arith);
+        same = λ d. ap (λ b. edge_at b 0) (get_or-take (part.end - part.start) (drop part.start chunks) k d l ∙ get_or-drop part.start chunks k d) ∙ are.reads (part.start + k) d (omega arith);
       } in record {
-        each = λ k l.
-            let a = next.before (start + k) (omega arith) in
-            let b = here.from_there (start + k) (omega arith) (omega arith) in
-            (start + k, omega arith, is_edge k (omega arith));
+        each = λ k l. (part.start + k, is.each (part.start + k) (omega arith) (omega arith), is_edge k (omega arith));
         all = λ i l e.
-            let after : start ≤ i = ⊎_elim (λ (b : i < start). absurd (let a = here.before i b in omega arith)) (λ (b : start ≤ i). b) (cases_lt i start) in
-            let before : i < end = ⊎_elim (λ (b : i < end). b) (λ (b : end ≤ i). absurd (let a = next.from_there i b l in omega arith)) (cases_lt i end) in
-            let at : start + (i - start) ≡ i = omega arith in
-            (i - start, subst (λ j. IsEdge es (take (end - start) (drop start chunks)) (i - start) j) at (is_edge (i - start) (omega arith)));
+            let after = is.all_after i l e in
+            let before = is.all_before i l e in
+            let at : part.start + (i - part.start) ≡ i = omega arith in
+            (i - part.start, subst (λ j. IsEdge es (take (part.end - part.start) (drop part.start chunks)) (i - part.start) j) at (is_edge (i - part.start) (omega arith)));
       }
 
 -- chunk k as an edge

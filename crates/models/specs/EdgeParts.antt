@@ -1,22 +1,37 @@
 -- The edges of a role name, which are one part of the list, since edges rise by the role name
 -- first.
-use Rattle.std.specs.Prelude.{◌≡◌, ℕ, ◌<◌, ◌≤◌, List, length, slice_index, slice_index_or}
+use Rattle.std.specs.Prelude.{◌≡◌, ℕ, ◌<◌, ◌≤◌, cond, List, length, nat_lt, slice_index_or, slice_set}
 use denote.Struct.Props as logic
+use Rattle.models.specs.declared.edge_parts.Part.{Part}
 use Rattle.models.specs.Items.{edges_in, edge_role, edge_at}
 
--- the edges before place i have a role name below r, and no others
-pub record BeginsAt (es : List ℕ) (r i : ℕ) : Type 0 where
-  pub within : i ≤ edges_in es
-  pub before : (k : ℕ) → k < i → edge_role es k < r
-  pub from_there : (k : ℕ) → i ≤ k → k < edges_in es → r ≤ edge_role es k
+-- of the first n edges, those with the role name r are at the places of the part, and no others
+pub record IsPart (es : List ℕ) (n r : ℕ) (part : Part) : Type 0 where
+  pub in_order : part.start ≤ part.end
+  pub within : part.end ≤ n
+  pub each : (k : ℕ) → part.start ≤ k → k < part.end → edge_role es k ≡ r
+  pub all_after : (k : ℕ) → k < n → edge_role es k ≡ r → part.start ≤ k
+  pub all_before : (k : ℕ) → k < n → edge_role es k ≡ r → k < part.end
 
--- where the edges of each role name begin; those of the last end where a 65th's would begin
-abbrev pub AllBegin : List ℕ → List ℕ → Type 0
-AllBegin es starts = (r : ℕ) → r < 65 → BeginsAt es r (slice_index starts r)
+-- the parts with this one for role name r, if there is such a name
+abbrev pub with_part : List Part → ℕ → Part → List Part
+with_part parts r part = cond (nat_lt r 64) (slice_set parts r part) parts
+
+-- a part of no edge
+abbrev pub no_part : Part
+no_part = record { start = 0; end = 0 }
+
+-- each role name has its part of the first n edges
+abbrev pub PartsOf : List ℕ → ℕ → List Part → Type 0
+PartsOf es n parts = (r : ℕ) → r < 64 → IsPart es n r (slice_index_or parts r no_part)
+
+-- each role name has its part of all edges
+abbrev pub AllParts : List ℕ → List Part → Type 0
+AllParts es parts = PartsOf es (edges_in es) parts
 
 -- that has one proof at most, as a ghost field asks
-pub AllBegin-prop : (es starts : List ℕ) → IsProp (AllBegin es starts)
-AllBegin-prop es starts = Prim.hlevel logic.props
+pub AllParts-prop : (es : List ℕ) (parts : List Part) → IsProp (AllParts es parts)
+AllParts-prop es parts = Prim.hlevel logic.props
 
 -- chunk k is edge i
 pub record IsEdge (es : List ℕ) (chunks : List (List ℕ)) (k i : ℕ) : Type 0 where

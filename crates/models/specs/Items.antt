@@ -54,6 +54,9 @@ PairBefore x y x' y' = (x < x') ⊎ ((x ≡ x') × (y < y'))
 abbrev pub TripleBefore : ℕ → ℕ → ℕ → ℕ → ℕ → ℕ → Type 0
 TripleBefore r x y r' x' y' = (r < r') ⊎ ((r ≡ r') × PairBefore x y x' y')
 
+abbrev pub EdgeBefore : Edge → Edge → Type 0
+EdgeBefore e f = TripleBefore e.role_name e.from e.to f.role_name f.from f.to
+
 -- mark i is in range in a model of n elements, and above the one before
 pub record GoodMark (ms : List ℕ) (n i : ℕ) : Type 0 where
   pub element_in_range : mark_element ms i < n

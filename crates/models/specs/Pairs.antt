@@ -36,3 +36,7 @@ PairIncluded m r s e = Leads (described m) s (source r e) (target r e)
 -- an edge, as a pair of role r, goes on by role s in one step
 abbrev pub PairContinued : Model → ℕ → ℕ → Edge → Type 0
 PairContinued m r s e = LeadsOn (described m) s (source r e) (target r e)
+
+-- if edge f goes on from edge e, both as pairs of role r, one pair of it makes the steps of the two
+abbrev pub Shortcut : Model → ℕ → Edge → Edge → Type 0
+Shortcut m r e f = source r f ≡ target r e → Leads (described m) r (source r e) (target r f)

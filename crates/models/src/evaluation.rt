@@ -1,4 +1,5 @@
 ghost use Rattle.std.specs.Prelude.{◌≡◌, ◌*◌, ◌/◌, ◌<◌, ◌≤◌, true, ◌&&◌, length, ◌==◌};
+ghost use Rattle.std.specs.Option.{ForSome};
 ghost use Rattle.register.specs.References.{all_below, Ordered};
 ghost use Rattle.rows.specs.Rows.{HasRow, contains, turned, RowBecomes};
 ghost use Rattle.logic.specs.Concepts.{parts};
@@ -39,14 +40,22 @@ impl Formed<'_> {
         }
     }
 
-    // Row `c` becomes the elements in a concept, from the rows of its parts.
-    fn fill(&self, names: &[u64; 4096], rows: &mut [u64], c: usize, concept: Concept)
-        requires named { Named self.now.model.now.marks.now names.now }
+    // Row `c` becomes the elements in a concept, from the rows of its parts. The model's size is
+    // handed over, so that no concept has to read it again.
+    fn fill(
+        &self,
+        size: usize,
+        names: Option<&[u64; 4096]>,
+        rows: &mut [u64],
+        c: usize,
+        concept: Concept,
+    )
+        requires size { size ≡ self.now.model.now.size }
+        requires named { ForSome names (λ table. Named self.now.model.now.marks.now table.now) }
         requires room { HasRow rows.old c }
         requires parts { all_below (parts concept) c ≡ true }
         ensures { RowBecomes rows.old rows.new c (λ e. computed self.now.model.now rows.old concept e) }
     {
-        let size = self.model.size as usize;
         match concept {
             Concept::Top => {
                 clear(rows, c);
@@ -68,17 +77,43 @@ impl Formed<'_> {
         }
     }
 
-    // Fills the row of every concept. One that has a part at or above its own number gets none.
+    // Fills the row of every concept, those of names by the table if there is one. One that has a
+    // part at or above its own number gets none.
+    fn fill_all(&self, names: Option<&[u64; 4096]>, rows: &mut [u64], concepts: &[Concept])
+        requires named { ForSome names (λ table. Named self.now.model.now.marks.now table.now) }
+        requires room { 4 * length concepts.now ≤ length rows.old }
+        ensures { Ordered parts concepts.now
+            → Evaluated (described self.now.model.now) concepts.now rows.old rows.new }
+    {
+        let size = self.model.size as usize;
+        for (c, concept) in concepts.iter().enumerate() {
+            if concept.refers_below(c) {
+                self.fill(size, names, rows, c, *concept);
+            }
+        }
+    }
+
+    // The same by a table.
+    fn fill_by_table(&self, rows: &mut [u64], concepts: &[Concept])
+        requires { 4 * length concepts.now ≤ length rows.old }
+        ensures { Ordered parts concepts.now
+            → Evaluated (described self.now.model.now) concepts.now rows.old rows.new }
+    {
+        let mut names = [0; 4096];
+        self.fill_names(&mut names);
+        self.fill_all(Some(&names), rows, concepts)
+    }
+
+    // Fills the row of every concept that refers to earlier ones alone.
     pub(crate) fn evaluate(&self, rows: &mut [u64], concepts: &[Concept])
         requires { 4 * length concepts.now ≤ length rows.old }
         ensures { Ordered parts concepts.now
             → Evaluated (described self.now.model.now) concepts.now rows.old rows.new }
     {
-        let names = self.name_rows();
-        for (c, concept) in concepts.iter().enumerate() {
-            if concept.refers_below(c) {
-                self.fill(&names, rows, c, *concept);
-            }
+        if self.is_table_cheaper(concepts) {
+            self.fill_by_table(rows, concepts)
+        } else {
+            self.fill_all(None, rows, concepts)
         }
     }
 }

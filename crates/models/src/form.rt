@@ -2,10 +2,10 @@ ghost use Rattle.std.specs.Prelude.{◌≡◌, ◌<◌, T, ◌↔◌, MatchResul
 ghost use Rattle.models.specs.Items.{marks_in, edges_in, GoodMark, GoodEdge};
 ghost use Rattle.models.specs.Models.{Sized, FirstBadMark, FirstBadEdge, WellFormed, FirstFlaw};
 ghost use Rattle.models.specs.FormProps.{WellFormed-prop};
-ghost use Rattle.models.specs.EdgeParts.{AllBegin, AllBegin-prop};
+ghost use Rattle.models.specs.EdgeParts.{AllParts, AllParts-prop};
 
 use crate::Model;
-use crate::edge_parts::edge_starts;
+use crate::edge_parts::{Part, edge_parts};
 use logic::concept::NAMES;
 use logic::role::ROLE_NAMES;
 
@@ -17,13 +17,13 @@ const MOST_MARKS: u16 = 4096;
 
 const MOST_EDGES: usize = 4096;
 
-// A model that is well formed, with the place where the edges of each role name begin.
+// A model that is well formed, with the part of its edges that each role name has.
 #[derive(Clone, Copy)]
 pub(crate) struct Formed<'m> {
     pub(crate) model: &'m Model<'m>,
-    pub(crate) starts: [usize; 65],
+    pub(crate) parts: [Part; 64],
     ghost formed: { WellFormed model.now } by { WellFormed-prop model.now },
-    ghost begin: { AllBegin model.now.edges.now starts } by { AllBegin-prop model.now.edges.now starts },
+    ghost parted: { AllParts model.now.edges.now parts } by { AllParts-prop model.now.edges.now parts },
 }
 
 impl<'m> Formed<'m> {
@@ -42,8 +42,8 @@ impl<'m> Formed<'m> {
         if let Some(i) = first_bad_edge(model) {
             return Err(1 + model.mark_count as usize + i);
         }
-        let starts = edge_starts(model);
-        Ok(Formed { model, starts })
+        let parts = edge_parts(model);
+        Ok(Formed { model, parts })
     }
 }
 

@@ -20,7 +20,7 @@ pub(crate) struct Pairs<'m> {
 }
 
 // Whether every bit of the word `y` is one of `x`.
-fn is_word_within(y: u64, x: u64) -> bool
+pub(crate) fn is_word_within(y: u64, x: u64) -> bool
     ensures { T result ↔ WordWithin y x }
 {
     y ^ (y & x) == 0

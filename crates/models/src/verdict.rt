@@ -4,8 +4,9 @@ ghost use Rattle.rows.specs.Rows.{contains};
 ghost use Rattle.models.specs.Firsts.{First};
 ghost use Rattle.models.specs.Evaluation.{RowIsFull, IsFullRow};
 
-use crate::pairs::is_within;
+use crate::pairs::{is_within, is_word_within};
 use bits::{has, low_bits};
+use labels::rows::next_from;
 use rows::{contains, row};
 use std::array;
 use vocabulary::MOST_CONCEPTS;
@@ -29,12 +30,17 @@ fn full_row(n: usize) -> [u64; 4]
 }
 
 impl Extensions<'_> {
-    // Whether row `c` has every element, by its words.
-    fn is_full(&self, c: usize) -> bool
-        requires { c < self.now.count }
+    // Whether row `c` has every element, by its words; the row `full` has all of them.
+    fn is_full(&self, full: [u64; 4], c: usize) -> bool
+        requires all { IsFullRow self.now.size full }
+        requires stands { c < self.now.count }
         ensures { T result ↔ RowIsFull self.now.rows.now self.now.size c }
     {
-        is_within(full_row(self.size as usize), row(self.rows, c))
+        if self.size <= 64 {
+            is_word_within(full[0], self.rows[4 * c])
+        } else {
+            is_within(full, row(self.rows, c))
+        }
     }
 
     // The first axiom that some element misses. Every element misses one that does not stand.
@@ -43,16 +49,33 @@ impl Extensions<'_> {
             × RowIsFull self.now.rows.now self.now.size (slice_index axioms.now k))
             (length axioms.now) result }
     {
-        axioms.iter().position(|c| *c as usize >= self.count || !self.is_full(*c as usize))
+        if axioms.is_empty() {
+            return None;
+        }
+        let full = full_row(self.size as usize);
+        axioms.iter().position(|c| *c as usize >= self.count || !self.is_full(full, *c as usize))
+    }
+
+    // The least concept of the label that the point misses, among the first `n`, which stand.
+    fn least_missed_of(&self, n: u16, label: &[u64], point: u16) -> Option<u16>
+        requires stand { n ≤ self.now.count }
+        requires point { point < self.now.size }
+        ensures { First (λ c. has label.now c ≡ true → T (contains self.now.rows.now c point)) n result }
+    {
+        (0..n).find(|c| has(label, *c as usize)
+            && !contains(self.rows, *c as usize, point as usize))
     }
 
     // The least concept of the label that the point misses. It misses each that does not stand.
-    pub(crate) fn least_missed(&self, label: &[u64], point: u16) -> Option<u16>
+    pub(crate) fn least_missed(&self, label: &[u64; 16], point: u16) -> Option<u16>
         requires { point < self.now.size }
         ensures { First (λ c. has label.now c ≡ true
             → (c < self.now.count) × T (contains self.now.rows.now c point)) 1024 result }
     {
-        (0..MOST_CONCEPTS as u16).find(|c| has(label, *c as usize)
-            && (*c as usize >= self.count || !contains(self.rows, *c as usize, point as usize)))
+        let standing = self.count.min(MOST_CONCEPTS) as u16;
+        if let Some(c) = self.least_missed_of(standing, label, point) {
+            return Some(c);
+        }
+        next_from(label, standing)
     }
 }

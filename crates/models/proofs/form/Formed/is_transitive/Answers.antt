@@ -11,8 +11,8 @@ pub returns : goal.returns
 returns c =
     let self = c.args.self.now in
     let m = self.model.now in
-    let edges = c.edges_of.result.now in
+    let edges = c.edges_of-edges.result.now in
     let asked = PairContinued m c.args.role c.args.role in
-    all_read asked (λ b. edge_at b 0) (chunk_edge edges) [] edges _ refl (λ k h. refl) _ (all_of _ _ edges c.edges_of.ensures asked _ (pairs_continued m self.formed c.args.role)) _
+    all_read asked (λ b. edge_at b 0) (chunk_edge edges) [] edges _ refl (λ k h. refl) _ (all_of _ _ edges c.edges_of-edges.ensures asked _ (pairs_continued m self.formed c.args.role)) _
     (cases_from_all _ _ _ (λ b. asked (edge_at b 0)) (λ b. asked (edge_at b 0) → ⊥) c.all.ensures.ran (YieldsList-from_slice _ c.iter.ensures.rest)
     (λ x q k. search (rules, tests)) (λ x q k. search (rules, tests)))

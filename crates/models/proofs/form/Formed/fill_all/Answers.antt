@@ -2,8 +2,8 @@ use Rattle.std.proofs.Common.{◌∙◌, arith}
 use Rattle.std.proofs.lemmas.Bool.{false≢true}
 use Rattle.logic.specs.declared.concept.Concept.TheVariants.{Top}
 use Rattle.models.proofs.MeaningFacts.{row_more}
-use Rattle.models.proofs.form.Formed.evaluate.Goals as goal
-use Rattle.models.proofs.form.Formed.evaluate.Goals.{then-refers_below, else-refers_below}
+use Rattle.models.proofs.form.Formed.fill_all.Goals as goal
+use Rattle.models.proofs.form.Formed.fill_all.Goals.{then-refers_below, else-refers_below}
 
 pub loop-c-preserved : goal.loop-c-preserved
 loop-c-preserved c =

@@ -1,11 +1,13 @@
-use Rattle.std.proofs.Common.{◌≡◌, ◌&&◌, eqb, ap, ◌∙◌, arith}
+use Rattle.std.proofs.Common.{◌≡◌, ◌&&◌, eqb, sym, subst, ap, ◌∙◌, ◌<◌, arith, rules}
 use Rattle.models.specs.Items.{mark_at, mark_element, mark_name, marks_in}
 use Rattle.bits.specs.Below.{some_below}
-use Rattle.models.proofs.TableFacts.{table_none, table_insert}
-use Rattle.models.proofs.form.Formed.name_rows.Goals as goal
+use Rattle.models.proofs.TableFacts.{TabledTo, table_none, table_insert}
+use Rattle.models.proofs.form.Formed.fill_names.Goals as goal
 
 pub loop-bytes-init : goal.loop-bytes-init
-loop-bytes-init c = let ms = c.args.self.now.model.now.marks.now in table_none 1024 (mark_name ms) (mark_element ms) 4096
+loop-bytes-init c =
+    let ms = c.args.self.now.model.now.marks.now in
+    subst (TabledTo 1024 (mark_name ms) (mark_element ms) 0) (sym c.requires) (table_none 1024 (mark_name ms) (mark_element ms) 4096)
 
 pub insert-requires : goal.insert-requires
 insert-requires c =
@@ -16,7 +18,7 @@ insert-requires c =
     let element = good.element_in_range in
     let name = good.name_in_range in
     let at = c.from-mark.ensures ∙ are.reads c.loop-bytes.bytes-index _ (omega (arith, are.many)) in
-    (omega (arith, ap (λ m. m.name) at, c.from-mark.array_long), omega (arith, ap (λ m. m.element) at))
+    (let small : c.from-mark.result.name < 1024 = omega (arith, ap (λ m. m.name) at) in search rules, omega (arith, ap (λ m. m.element) at))
 
 pub loop-bytes-preserved : goal.loop-bytes-preserved
 loop-bytes-preserved c =

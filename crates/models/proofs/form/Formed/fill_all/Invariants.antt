@@ -3,7 +3,7 @@ use Rattle.register.specs.References.{Ordered}
 use Rattle.logic.specs.Concepts.{parts}
 use Rattle.models.specs.Models.{described}
 use Rattle.models.specs.Evaluation.{RowsHold}
-use Rattle.models.proofs.form.Formed.evaluate.Given as goal
+use Rattle.models.proofs.form.Formed.fill_all.Given as goal
 
 abbrev pub invariant-loop-c : goal.invariant-loop-c
 invariant-loop-c l =

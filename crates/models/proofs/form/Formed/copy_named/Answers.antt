@@ -6,7 +6,7 @@ use Rattle.bits.proofs.SomeBelow.{some_there}
 use Rattle.rows.proofs.RowFacts.{row_written}
 use Rattle.models.specs.Items.{marked, marks_in, mark_name}
 use Rattle.models.proofs.WalkFacts.{row_as}
-use Rattle.models.proofs.form.Formed.fill_named.Goals as goal
+use Rattle.models.proofs.form.Formed.copy_named.Goals as goal
 
 pub returns-then-name-lt-NAMES : goal.returns-then-name-lt-NAMES
 returns-then-name-lt-NAMES c = row_written _ _ _ _ _ c.write.ensures (λ e l.
