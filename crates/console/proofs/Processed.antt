@@ -1,5 +1,5 @@
 -- From the docket's answer to what was printed, and on to how a program ends.
-use Rattle.std.proofs.Common.{◌≡◌, ℕ, ◌*◌, ◌≤◌, List, [], ◌++◌, length, drop, take-append-drop, Some, None, Option, Ok, Err, Result, IsErrAnd, refl, sym, ap, subst, ◌∙◌, inr, arith}
+use Rattle.std.proofs.Common.{◌≡◌, ◌≢◌, ℕ, ◌*◌, ◌≤◌, List, [], ◌++◌, length, drop, take-append-drop, Some, None, Option, Ok, Err, Result, IsErrAnd, refl, sym, ap, subst, ◌∙◌, inr, arith}
 use Rattle.std.proofs.lemmas.Option.{none-some}
 use Rattle.std.specs.Io.KnownBytes.{Consumes}
 use Rattle.refusals.specs.Checks.{first}
@@ -7,7 +7,7 @@ use Rattle.docket.specs.Dockets.{opening_checks}
 use Rattle.records.specs.Files.{HasRecords}
 use Rattle.intake.specs.declared.Reply.{Reply}
 use Rattle.console.specs.declared.failure.Failure.{Failure}
-use Rattle.console.specs.declared.failure.Failure.TheVariants.{Capacities, Replies, Memory, Io}
+use Rattle.console.specs.declared.failure.Failure.TheVariants.{Capacities, Replies, Memory, Io, Notices}
 use Rattle.console.specs.Answers.{Replied}
 use Rattle.console.specs.Inputs.{IsFirst}
 use Rattle.console.specs.Outputs.{Printed}
@@ -29,11 +29,18 @@ pub processed : (limit : ℕ) (file : List ℕ) (concepts lines places : ℕ) (o
     → Processed limit file concepts lines (length old) places before after notes notes_after r
 processed limit file concepts lines places old new rs tally before after notes notes_after (Ok u) replied (p, q) =
     (report_text rs tally, report_of file concepts lines old new rs tally replied, p, q)
-processed limit file concepts lines places old new rs tally before after notes notes_after (Err Memory) replied p = p
-processed limit file concepts lines places old new rs tally before after notes notes_after (Err (Io e)) replied p =
-    (report_text rs tally, report_of file concepts lines old new rs tally replied, p)
+processed limit file concepts lines places old new rs tally before after notes notes_after (Err Memory) replied p = absurd p
+processed limit file concepts lines places old new rs tally before after notes notes_after (Err (Io e)) replied (p, q) =
+    (report_text rs tally, report_of file concepts lines old new rs tally replied, p, q)
+processed limit file concepts lines places old new rs tally before after notes notes_after (Err (Notices e)) replied (p, q) =
+    (report_text rs tally, report_of file concepts lines old new rs tally replied, p, q)
 processed limit file concepts lines places old new rs tally before after notes notes_after (Err Capacities) replied p = absurd p
 processed limit file concepts lines places old new rs tally before after notes notes_after (Err Replies) replied p = absurd p
+
+-- what is printed needs no heap
+pub heapless : (text notice : List ℕ) (before after notes notes_after : Option (List ℕ)) (r : Result (Unit {0}) Failure)
+    → Printed text notice before after notes notes_after r → r ≢ Err Memory
+heapless text notice before after notes notes_after r p e = subst (λ q. Printed text notice before after notes notes_after q) e p
 
 -- the first bytes are taken from the input
 pub first_consumed : (limit : ℕ) (input rest : Option (List ℕ)) (file : List ℕ) → IsFirst limit input rest file → Consumes input rest file
@@ -62,7 +69,8 @@ ended limit concepts lines c l w places file input rest before after notes notes
     cases : (r : Result (Unit {0}) Failure) → Processed limit file concepts lines (4 * concepts) places before after notes notes_after r
         → Ended limit concepts lines (streams input before notes) (streams rest after notes_after) r
     cases (Ok u) (text, h, p, q) = (answered text h, p, q)
-    cases (Err (Io e)) (text, h, p) = inr (answered text h, p)
+    cases (Err (Io e)) (text, h, p, q) = inr (answered text h, p, q)
+    cases (Err (Notices e)) (text, h, p, q) = (answered text h, p, q)
     cases (Err Memory) (p, q) = (file, within, (first_consumed limit input rest file read, p, q))
     cases (Err Capacities) ((x, h), _, _) = absurd (none-some x (sym opens ∙ h))
     cases (Err Replies) ((n, h, few), _, _) = let enough : n ≤ places = fits n h in absurd (omega (arith, enough, few))

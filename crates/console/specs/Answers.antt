@@ -13,7 +13,7 @@ use Rattle.intake.specs.declared.Reply.{Reply}
 use Rattle.intake.specs.Taking.{RecordsTaken}
 use Rattle.console.specs.declared.answer.Outcome.{Outcome}
 use Rattle.console.specs.declared.failure.Failure.{Failure}
-use Rattle.console.specs.declared.failure.Failure.TheVariants.{Capacities, Replies, Memory, Io}
+use Rattle.console.specs.declared.failure.Failure.TheVariants.{Capacities, Replies, Memory, Io, Notices}
 
 -- the open, the empty and the inhabited claims of a docket
 abbrev pub tally_of : Docket → ℕ × ℕ × ℕ
@@ -50,3 +50,4 @@ Answers file concepts lines old new before after (Err Replies) =
     ((n : ℕ) × HasRecords file n × (length before < n)) × (new ≡ old) × (after ≡ before)
 Answers file concepts lines old new before after (Err Memory) = ⊥
 Answers file concepts lines old new before after (Err (Io e)) = ⊥
+Answers file concepts lines old new before after (Err (Notices e)) = ⊥

@@ -6,9 +6,9 @@ use Rattle.docket.specs.Dockets.{opening_checks}
 use Rattle.records.specs.Files.{HasRecords}
 use Rattle.intake.specs.declared.Reply.{Reply}
 use Rattle.console.specs.declared.failure.Failure.{Failure}
-use Rattle.console.specs.declared.failure.Failure.TheVariants.{Capacities, Replies, Memory, Io}
+use Rattle.console.specs.declared.failure.Failure.TheVariants.{Capacities, Replies, Memory, Io, Notices}
 use Rattle.console.specs.Answers.{Replied}
-use Rattle.console.specs.Outputs.{WrittenInPart}
+use Rattle.console.specs.Outputs.{AppendsFront}
 use Rattle.console.specs.Reports.{report_text, notice_text}
 
 -- The text is the report of a new docket with the ten rules, with room for so many concepts and
@@ -23,8 +23,9 @@ pub record IsReport (file : List ℕ) (concepts lines words : ℕ) (text : List 
   pub is_text : text ≡ report_text replies tally
 
 -- With places for so many concepts, lines, working words and replies: the report is printed; and
--- where the file is as long as the limit, the notice is. Where a write fails, what came before it
--- is written; where memory lacks or no docket was asked, nothing is.
+-- where the file is as long as the limit, the notice is. Where the report is not written, a
+-- beginning of it is, and nothing of the notice; where the notice is not written, the whole report
+-- is, and a beginning of the notice; where memory lacks or no docket was asked, nothing is.
 abbrev pub Processed : (limit : ℕ) (file : List ℕ) (concepts lines words places : ℕ)
     (before after notes notes_after : Option (List ℕ)) → Result (Unit {0}) Failure → Type 0
 Processed limit file concepts lines words places before after notes notes_after (Ok u) =
@@ -32,7 +33,10 @@ Processed limit file concepts lines words places before after notes notes_after 
     × Appends before after text × Appends notes notes_after (notice_text limit (length file))
 Processed limit file concepts lines words places before after notes notes_after (Err (Io e)) =
     (text : List ℕ) × IsReport file concepts lines words text
-    × WrittenInPart text (notice_text limit (length file)) before after notes notes_after
+    × AppendsFront before after text × Keeps notes notes_after
+Processed limit file concepts lines words places before after notes notes_after (Err (Notices e)) =
+    (text : List ℕ) × IsReport file concepts lines words text
+    × Appends before after text × AppendsFront notes notes_after (notice_text limit (length file))
 Processed limit file concepts lines words places before after notes notes_after (Err Memory) =
     Keeps before after × Keeps notes notes_after
 Processed limit file concepts lines words places before after notes notes_after (Err Capacities) =

@@ -2,9 +2,9 @@
 use Rattle.std.specs.Prelude.{ℕ, ◌*◌, ◌<◌, ◌≤◌, ◌⊎◌, List, length, Ok, Err, Option, Result}
 use Rattle.std.specs.Io.KnownBytes.{Consumes, Keeps, Appends}
 use Rattle.console.specs.declared.failure.Failure.{Failure}
-use Rattle.console.specs.declared.failure.Failure.TheVariants.{Memory, Io}
+use Rattle.console.specs.declared.failure.Failure.TheVariants.{Capacities, Replies, Memory, Io, Notices}
 use Rattle.console.specs.Inputs.{IsFirst}
-use Rattle.console.specs.Outputs.{WrittenInPart}
+use Rattle.console.specs.Outputs.{AppendsFront}
 use Rattle.console.specs.Processing.{IsReport}
 use Rattle.console.specs.Reports.{notice_text}
 
@@ -33,8 +33,9 @@ NothingPrinted file old new =
 
 -- THE CONTRACT of a program with these limits. The report is printed; and where the file is as long
 -- as the limit, the notice is. Where memory lacks, nothing is printed. Where a read fails, before
--- the limit, nothing is printed; where a write fails, what came before it is written. There is no
--- other error.
+-- the limit, nothing is printed; where the report is not written, a beginning of it is, and nothing
+-- of the notice. Where the notice is not written, the whole report is, and a beginning of the
+-- notice. There is no other error.
 abbrev pub Ended : (limit concepts lines : ℕ) → (old new : Streams)
     → Result (Unit {0}) Failure → Type 0
 Ended limit concepts lines old new (Ok u) =
@@ -46,6 +47,18 @@ Ended limit concepts lines old new (Err Memory) =
 Ended limit concepts lines old new (Err (Io e)) =
     ((file : List ℕ) × (length file < limit) × NothingPrinted file old new)
     ⊎ ((a : Answered limit concepts lines old new)
-    × WrittenInPart a.text (notice_text limit (length a.file))
-    old.output new.output old.notices new.notices)
+    × AppendsFront old.output new.output a.text × Keeps old.notices new.notices)
+Ended limit concepts lines old new (Err (Notices e)) =
+    (a : Answered limit concepts lines old new)
+    × Appends old.output new.output a.text
+    × AppendsFront old.notices new.notices (notice_text limit (length a.file))
 Ended limit concepts lines old new (Err x) = ⊥
+
+-- what a program tells of its end: a notice that was not written is no failure, all else is as it is
+abbrev pub status_of : Result (Unit {0}) Failure → Result (Unit {0}) Failure
+status_of (Ok u) = Ok u
+status_of (Err Capacities) = Err Capacities
+status_of (Err Replies) = Err Replies
+status_of (Err Memory) = Err Memory
+status_of (Err (Io e)) = Err (Io e)
+status_of (Err (Notices e)) = Ok tt

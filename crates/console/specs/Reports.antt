@@ -4,7 +4,7 @@ use Rattle.std.specs.Fmt.{decimal}
 use Rattle.intake.specs.declared.Reply.{Reply}
 use Rattle.intake.specs.Printing.{reply_text}
 use Rattle.console.specs.declared.failure.Failure.{Failure}
-use Rattle.console.specs.declared.failure.Failure.TheVariants.{Capacities, Replies, Memory, Io}
+use Rattle.console.specs.declared.failure.Failure.TheVariants.{Capacities, Replies, Memory, Io, Notices}
 
 -- a line for a reply, with the index of its record
 abbrev pub reply_line : ℕ → Reply → List ℕ
@@ -36,3 +36,4 @@ failure_text Capacities = Some (codes "no docket of these capacities")
 failure_text Replies = Some (codes "more records than replies")
 failure_text Memory = Some (codes "out of memory")
 failure_text (Io e) = None
+failure_text (Notices e) = None

@@ -15,8 +15,10 @@ pub enum Failure {
     Replies,
     // no memory was to be had
     Memory,
-    // the input was not read, or the output not written
+    // the input was not read, or the report not written whole
     Io(io::Error),
+    // the report is written whole, and the notice is not
+    Notices(io::Error),
 }
 
 impl fmt::Display for Failure {
@@ -28,6 +30,7 @@ impl fmt::Display for Failure {
             Failure::Replies => write!(f, "more records than replies"),
             Failure::Memory => write!(f, "out of memory"),
             Failure::Io(error) => write!(f, "{error}"),
+            Failure::Notices(error) => write!(f, "{error}"),
         }
     }
 }

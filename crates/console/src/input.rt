@@ -4,8 +4,9 @@ ghost use Rattle.console.specs.Inputs.{IsRead, BreaksOff};
 use std::io;
 use std::io::Read;
 
-// How many bytes are asked for at a time.
-const CHUNK: usize = 4096;
+// How many bytes are asked for at a time: all that `dossier` reads, since of a message on a message
+// socket what one read leaves is lost.
+const CHUNK: usize = 16_384;
 
 /// Reads until the buffer is full or the input ends, and answers how many bytes came. Those that
 /// came before a failure are in the buffer too.

@@ -4,8 +4,9 @@ ghost use Rattle.console.specs.Outputs.{Printed};
 
 use crate::failure::Failure;
 use crate::output::put;
+use crate::page::put_report;
+use crate::printed::line_of_notice;
 use crate::report::Report;
-use std::alloc::Global;
 use std::fmt;
 use std::io::Write;
 
@@ -21,20 +22,14 @@ impl fmt::Display for Notice {
     ghost output = { λ n. Some (notice_text n.limit n.length) };
 
     fn fmt<W: fmt::Write>(&self, f: &mut fmt::Formatter<W>) -> fmt::Result {
-        if self.length < self.limit {
-            return Ok(());
-        }
-        writeln!(
-            f,
-            "the limit of {} bytes is reached; what may lie behind them was not looked at",
-            self.limit,
-        )
+        let line = line_of_notice(self.limit, self.length);
+        f.write_str(line.as_str())
     }
 }
 
-/// Writes a report to the output, and then what there is to notice to `notices`.
+/// Writes a report to the output, and then what there is to notice to `notices`. Where that fails,
+/// the error says so, and the report is written whole. Neither needs the heap.
 pub fn print<W: Write, N: Write>(
-    alloc: Global,
     report: Report,
     notice: Notice,
     output: &mut W,
@@ -46,11 +41,10 @@ pub fn print<W: Write, N: Write>(
         (W.contents output.old) (W.contents output.new)
         (N.contents notices.old) (N.contents notices.new) result }
 {
-    // made whole before anything is written: after an error, a formatter does not say what it has
-    // written
-    let text = format!(in alloc; "{report}")?;
-    let said = format!(in alloc; "{notice}")?;
-    put(output, text.as_bytes())?;
-    put(notices, said.as_bytes())?;
+    put_report(output, report)?;
+    let said = line_of_notice(notice.limit, notice.length);
+    if let Err(error) = put(notices, said.as_str().as_bytes()) {
+        return Err(Failure::Notices(error));
+    }
     Ok(())
 }

@@ -1,4 +1,5 @@
-ghost use Rattle.std.specs.Prelude.{length};
+ghost use Rattle.std.specs.Prelude.{◌≢◌, length, Err};
+ghost use Rattle.console.specs.declared.failure.Failure.TheVariants.{Memory as NoMemory};
 ghost use Rattle.console.specs.Processing.{Processed};
 
 use crate::answer::answer;
@@ -8,7 +9,6 @@ use crate::report::Report;
 use book::line::Line;
 use intake::Reply;
 use logic::concept::Concept;
-use std::alloc::Global;
 use std::io::Write;
 
 /// The memory that a dossier is answered in. There can be as many concepts, lines and records as
@@ -22,20 +22,20 @@ pub struct Memory<'m> {
 }
 
 /// Answers a dossier and prints the report; and says on `notices`, if the file is as long as the
-/// limit of what is read, that it is.
+/// limit of what is read, that it is. It asks nothing of the heap.
 pub fn process<W: Write, N: Write>(
-    alloc: Global,
     file: &[u8],
     limit: usize,
     memory: Memory,
     output: &mut W,
     notices: &mut N,
 ) -> Result<(), Failure>
-    ensures { Processed limit file.now
+    ensures processed { Processed limit file.now
         (length memory.entry.concepts.now) (length memory.entry.lines.now)
         (length memory.entry.rows.now) (length memory.entry.replies.now)
         (W.contents output.old) (W.contents output.new)
         (N.contents notices.old) (N.contents notices.new) result }
+    ensures heapless { result ≢ Err NoMemory }
 {
     let Memory {
         concepts,
@@ -52,5 +52,5 @@ pub fn process<W: Write, N: Write>(
         limit,
         length: file.len(),
     };
-    print(alloc, report, notice, output, notices)
+    print(report, notice, output, notices)
 }

@@ -1,6 +1,7 @@
-ghost use Rattle.std.specs.Prelude.{◌≡◌, length, vec_len, IfOk};
+ghost use Rattle.std.specs.Prelude.{◌≡◌, ◌≢◌, length, vec_len, IfOk, Err};
+ghost use Rattle.console.specs.declared.failure.Failure.TheVariants.{Memory as NoMemory};
 ghost use Rattle.console.specs.Processing.{Processed};
-ghost use Rattle.console.specs.Programs.{Ended, streams};
+ghost use Rattle.console.specs.Programs.{Ended, status_of, streams};
 
 use crate::failure::Failure;
 use crate::input::fill;
@@ -37,17 +38,29 @@ const NO_REPLY: Reply = Reply {
     answer: Ok(0),
 };
 
+/// What a program tells of its end. A notice that was not written does not make it fail, since its
+/// report is whole.
+pub fn ending(ended: Result<(), Failure>) -> Result<(), Failure>
+    ensures { result ≡ status_of ended }
+{
+    match ended {
+        Err(Failure::Notices(_)) => Ok(()),
+        other => other,
+    }
+}
+
 /// The program `dossier`: reads up to 16,384 bytes, hands them to a new docket with room for 256
 /// concepts and 256 lines, and prints what it said. Where the limit is reached, `notices` is told.
+/// It asks nothing of the heap, so it is never stopped by want of memory.
 pub fn run_dossier<R: Read, W: Write, N: Write>(
-    alloc: Global,
     input: &mut R,
     output: &mut W,
     notices: &mut N,
 ) -> Result<(), Failure>
-    ensures { Ended 16384 256 256
+    ensures ended { Ended 16384 256 256
         (streams (R.remaining input.old) (W.contents output.old) (N.contents notices.old))
         (streams (R.remaining input.new) (W.contents output.new) (N.contents notices.new)) result }
+    ensures heapless { result ≢ Err NoMemory }
 {
     let mut buffer = [0; LIMIT];
     let length = fill(input, &mut buffer)?;
@@ -62,7 +75,7 @@ pub fn run_dossier<R: Read, W: Write, N: Write>(
         rows: &mut rows,
         replies: &mut replies,
     };
-    process(alloc, file, LIMIT, memory, output, notices)
+    process(file, LIMIT, memory, output, notices)
 }
 
 /// The program `wide`: the same with 4,194,304 bytes and the largest docket, all in memory of the
@@ -130,5 +143,5 @@ fn process_wide<W: Write, N: Write>(
         rows: &mut rows,
         replies: &mut replies,
     };
-    process(alloc, file, limit, memory, output, notices)
+    process(file, limit, memory, output, notices)
 }

@@ -1,5 +1,5 @@
 use console::failure::Failure;
-use console::programs::run_dossier;
+use console::programs::{ending, run_dossier};
 use std::alloc::Global;
 use std::io;
 use std::io::{ErrorKind, Read, Write};
@@ -28,6 +28,21 @@ impl Read for Source<'_> {
         buf[..given].copy_from_slice(now);
         self.rest = later;
         self.left -= given;
+        Ok(given)
+    }
+}
+
+// Gives a message, of which it throws away what one read leaves.
+#[derive(Drop)]
+struct Message<'m> {
+    bytes: &'m [u8],
+}
+
+impl Read for Message<'_> {
+    fn read(&mut self, buf: &mut [u8]) -> io::Result<usize> {
+        let given = buf.len().min(self.bytes.len());
+        buf[..given].copy_from_slice(&self.bytes[..given]);
+        self.bytes = &[];
         Ok(given)
     }
 }
@@ -95,6 +110,19 @@ fn ends(what: &str, end: &Result<(), Failure>, well: bool) -> Result<(), Fail> {
     }
 }
 
+// A run of the program has written its report, and its notice whole or not. Either way it has not failed.
+fn ends_reported(end: Result<(), Failure>, noticed: bool) -> Result<(), Fail> {
+    let as_wanted = match &end {
+        Ok(()) => noticed,
+        Err(Failure::Notices(_)) => !noticed,
+        Err(_) => false,
+    };
+    if !as_wanted {
+        return Err(Fail::new("noticing fails: another end"));
+    }
+    ends("noticing fails, told", &ending(end), true)
+}
+
 // A name and its negation as mates, the seal, a line by which they clash, and an axiom too late.
 static FILE: &[u8] = b"\
         \x06\0\x03\0\x02\0\0\0\0\0\
@@ -116,12 +144,7 @@ fn a_few_bytes_at_a_time(rt: HostRuntime) -> Result<(), Fail> {
     for step in 1..4 {
         let mut output = sink_of(rt.alloc(), step, NEVER);
         let mut notices = sink_of(rt.alloc(), step, NEVER);
-        let result = run_dossier(
-            rt.alloc(),
-            &mut source_of(FILE, step, NEVER),
-            &mut output,
-            &mut notices,
-        );
+        let result = run_dossier(&mut source_of(FILE, step, NEVER), &mut output, &mut notices);
         ends("in pieces", &result, true)?;
         same("output", output.bytes.as_slice(), TEXT)?;
         same("notices", notices.bytes.as_slice(), b"")?;
@@ -135,13 +158,9 @@ fn reading_fails(rt: HostRuntime) -> Result<(), Fail> {
     for n in 0..=FILE.len() {
         let mut output = sink_of(rt.alloc(), 7, NEVER);
         let mut notices = sink_of(rt.alloc(), 7, NEVER);
-        let result = run_dossier(
-            rt.alloc(),
-            &mut source_of(FILE, 5, n),
-            &mut output,
-            &mut notices,
-        );
+        let result = run_dossier(&mut source_of(FILE, 5, n), &mut output, &mut notices);
         ends("reading fails", &result, false)?;
+        ends("reading fails, told", &ending(result), false)?;
         same("output", output.bytes.as_slice(), b"")?;
         same("notices", notices.bytes.as_slice(), b"")?;
     }
@@ -154,13 +173,9 @@ fn writing_fails(rt: HostRuntime) -> Result<(), Fail> {
     for n in 0..=TEXT.len() {
         let mut output = sink_of(rt.alloc(), 5, n);
         let mut notices = sink_of(rt.alloc(), 5, NEVER);
-        let result = run_dossier(
-            rt.alloc(),
-            &mut source_of(FILE, 7, NEVER),
-            &mut output,
-            &mut notices,
-        );
+        let result = run_dossier(&mut source_of(FILE, 7, NEVER), &mut output, &mut notices);
         ends("writing fails", &result, n == TEXT.len())?;
+        ends("writing fails, told", &ending(result), n == TEXT.len())?;
         same(
             "output",
             output.bytes.as_slice(),
@@ -257,7 +272,7 @@ fn at_the_limit(alloc: Global, case: &Case, step: usize) -> Result<(), Fail> {
     let mut input = source_of(file.as_slice(), step, NEVER);
     let mut output = sink_of(alloc, NEVER, NEVER);
     let mut notices = sink_of(alloc, NEVER, NEVER);
-    let result = run_dossier(alloc, &mut input, &mut output, &mut notices);
+    let result = run_dossier(&mut input, &mut output, &mut notices);
     ends("at the limit", &result, true)?;
     let text = output.bytes.as_slice();
     if !text.starts_with(case.begins) || !text.ends_with(case.ends) {
@@ -283,7 +298,83 @@ fn limits(rt: HostRuntime) -> Result<(), Fail> {
     Ok(())
 }
 
-// Where no notice can be written, the report is written all the same, and the error is told.
+// What is printed for so many seals, of which the first is taken.
+fn text_of_seals(alloc: Global, records: usize) -> Result<Vec<u8>, Fail> {
+    let mut text = Vec::new(alloc);
+    text.extend_from_slice(b"1 6 ok 0\n")?;
+    for index in 2..=records {
+        let line = format!(in alloc; "{index} 6 refused 2 0\n")?;
+        text.extend_from_slice(line.as_bytes())?;
+    }
+    text.extend_from_slice(b"end 0 0 0\n")?;
+    Ok(text)
+}
+
+// A report of some pages. Its output fails between them and within one: then so many bytes are written. With room for all it does not fail.
+#[test]
+fn pages(rt: HostRuntime) -> Result<(), Fail> {
+    let file = file_of(rt.alloc(), &[(SEAL, 3000)])?;
+    let text = text_of_seals(rt.alloc(), 3000)?;
+    let all = text.len();
+    for n in [
+        0,
+        1,
+        8170,
+        8180,
+        8190,
+        8191,
+        8192,
+        8193,
+        16_384,
+        20_000,
+        all.saturating_sub(1),
+        all,
+        NEVER,
+    ] {
+        let mut output = sink_of(rt.alloc(), 1000, n);
+        let mut notices = sink_of(rt.alloc(), 5, NEVER);
+        let result = run_dossier(
+            &mut source_of(file.as_slice(), 999, NEVER),
+            &mut output,
+            &mut notices,
+        );
+        ends("pages", &result, n >= all)?;
+        let written = n.min(all);
+        same(
+            "output",
+            output.bytes.as_slice(),
+            &text.as_slice()[..written],
+        )?;
+        same("notices", notices.bytes.as_slice(), b"")?;
+    }
+    Ok(())
+}
+
+// All that one read can give of a message is read: up to as many bytes as the limit.
+#[test]
+fn messages(rt: HostRuntime) -> Result<(), Fail> {
+    for records in [1024, 1025, 3000, 4096, 5000] {
+        let file = file_of(rt.alloc(), &[(SEAL, records)])?;
+        let mut output = sink_of(rt.alloc(), NEVER, NEVER);
+        let mut notices = sink_of(rt.alloc(), NEVER, NEVER);
+        let result = run_dossier(
+            &mut Message {
+                bytes: file.as_slice(),
+            },
+            &mut output,
+            &mut notices,
+        );
+        ends("a message", &result, true)?;
+        let last = records.min(4096);
+        let end = format!(in rt.alloc(); "\n{last} 6 refused 2 0\nend 0 0 0\n")?;
+        if !output.bytes.as_slice().ends_with(end.as_bytes()) {
+            return Err(Fail::new(format_args!("another report of {records} records")));
+        }
+    }
+    Ok(())
+}
+
+// Where no notice can be written, the report is written all the same, and the error says that it was the notice.
 #[test]
 fn noticing_fails(rt: HostRuntime) -> Result<(), Fail> {
     for n in 0..=NOTICE.len() {
@@ -291,12 +382,11 @@ fn noticing_fails(rt: HostRuntime) -> Result<(), Fail> {
         let mut output = sink_of(rt.alloc(), NEVER, NEVER);
         let mut notices = sink_of(rt.alloc(), 11, n);
         let result = run_dossier(
-            rt.alloc(),
             &mut source_of(file.as_slice(), LIMIT, NEVER),
             &mut output,
             &mut notices,
         );
-        ends("noticing fails", &result, n == NOTICE.len())?;
+        ends_reported(result, n == NOTICE.len())?;
         if !output
             .bytes
             .as_slice()

@@ -1,15 +1,16 @@
 #![tactic(auto)]
 
-use console::programs::run_wide;
+use console::programs::{ending, run_wide};
 use std::io;
 
-// Names the input, the output and the notices; `run_wide` has the rest.
+// Names the input, the output and the notices; `run_wide` and `ending` have the rest.
 fn main(rt: HostRuntime) -> anyhow::Result<()> {
-    run_wide(
+    let ended = run_wide(
         rt.alloc(),
         &mut rt.stdin(),
         &mut io::writer(&rt),
         &mut rt.stderr(),
-    )?;
+    );
+    ending(ended)?;
     Ok(())
 }
