@@ -22,8 +22,14 @@ impl fmt::Display for Notice {
     ghost output = { λ n. Some (notice_text n.limit n.length) };
 
     fn fmt<W: fmt::Write>(&self, f: &mut fmt::Formatter<W>) -> fmt::Result {
-        let line = line_of_notice(self.limit, self.length);
-        f.write_str(line.as_str())
+        if self.length < self.limit {
+            return Ok(());
+        }
+        writeln!(
+            f,
+            "the limit of {} bytes is reached; what may lie behind them was not looked at",
+            self.limit,
+        )
     }
 }
 

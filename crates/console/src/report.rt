@@ -1,7 +1,6 @@
 ghost use Rattle.std.specs.Prelude.{Some};
 ghost use Rattle.console.specs.Reports.{report_text};
 
-use crate::printed::{line_of_reply, line_of_tally};
 use intake::Reply;
 use std::fmt;
 
@@ -18,10 +17,9 @@ impl fmt::Display for Report<'_> {
 
     fn fmt<W: fmt::Write>(&self, f: &mut fmt::Formatter<W>) -> fmt::Result {
         for (i, reply) in self.replies.iter().enumerate() {
-            let line = line_of_reply(i + 1, reply);
-            f.write_str(line.as_str())?;
+            writeln!(f, "{} {reply}", i + 1)?;
         }
-        let last = line_of_tally(self.tally);
-        f.write_str(last.as_str())
+        let (open, empty, inhabited) = self.tally;
+        writeln!(f, "end {open} {empty} {inhabited}")
     }
 }
