@@ -22,6 +22,7 @@ impl fmt::Display for Notice {
     ghost output = { λ n. Some (notice_text n.limit n.length) };
 
     fn fmt<W: fmt::Write>(&self, f: &mut fmt::Formatter<W>) -> fmt::Result {
+        // a shorter file has no notice: the formatter is asked nothing, so that this can't fail
         if self.length < self.limit {
             return Ok(());
         }

@@ -16,6 +16,7 @@ impl fmt::Display for Report<'_> {
     ghost output = { λ r. Some (report_text r.replies.now r.tally) };
 
     fn fmt<W: fmt::Write>(&self, f: &mut fmt::Formatter<W>) -> fmt::Result {
+        // in pieces, and not by the lines of `printed`: a writer may take short pieces alone
         for (i, reply) in self.replies.iter().enumerate() {
             writeln!(f, "{} {reply}", i + 1)?;
         }

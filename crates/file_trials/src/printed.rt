@@ -11,7 +11,8 @@ use std::fmt;
 use std::fmt::Write;
 use std::test::Fail;
 
-// The dossier that README makes: a name and its negation as mates, the seal, a line by which they clash, and an axiom too late.
+// The dossier that README makes: a name and its negation as mates, the seal, a line by which they
+// clash, and an axiom too late.
 static EXAMPLE: [&[u16]; 6] = [
     &[3, 2, 0, 0],
     &[3, 3, 0, 0],
@@ -38,7 +39,8 @@ const REPORT: &str =
 const NOTICE: &str =
     "the limit of 16384 bytes is reached; what may lie behind them was not looked at\n";
 
-// Takes pieces of a text of at most so many bytes, and refuses longer ones; with no such number it refuses each, an empty one too.
+// Takes pieces of a text of at most so many bytes, and refuses longer ones. With no such number it
+// refuses each, an empty one too.
 #[derive(Drop)]
 struct Pieces {
     text: String,
@@ -54,7 +56,7 @@ impl Write for Pieces {
     }
 }
 
-// What is shown to a writer that takes pieces of so many bytes is this text; or the writer refuses it.
+// What a writer that takes pieces of so many bytes is shown is this text; or the writer refuses it.
 fn shows<D: fmt::Display>(
     alloc: Global,
     shown: &D,
@@ -120,7 +122,8 @@ fn example(rt: HostRuntime) -> Result<(), Fail> {
     print(rt.alloc(), &EXAMPLE, &PRINTED)
 }
 
-// Of a file that is shorter than the limit there is nothing to notice, and nothing is asked of the writer.
+// Of a file that is shorter than the limit there is nothing to notice, and nothing is asked of the
+// writer.
 #[test]
 fn notices(rt: HostRuntime) -> Result<(), Fail> {
     let limit = 16_384;
